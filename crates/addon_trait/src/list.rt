@@ -3,7 +3,7 @@
 ghost use Rattle.std.specs.Prelude.{◌≡◌, ◌<◌, [], ◌∷◌, ◌++◌, IfSome, length, map, set, option_map};
 ghost use Rattle.napi_types.specs.scripts.Plans.{plan_of, registers_of};
 ghost use Rattle.napi_types.specs.scripts.Registers.{plan_ask, registers_after_reply, blank_registers, with_gifts};
-ghost use Rattle.addon_trait.specs.Addons.{loaded_at, OthersStay, seen_of};
+ghost use Rattle.addon_trait.specs.Addons.{loaded_at, OthersStay, seen_of, TellSamePlans};
 
 use crate::Addon;
 use napi_types::{AddonPlan, Ask, Begun, Due, Reply};
@@ -74,8 +74,7 @@ pub fn load_at(addons: &mut Vec<Box<dyn Addon>>, which: usize, given: AddonPlan)
 /// The other addons stay as they are, and none has seen anything more.
 pub fn enter_at(addons: &mut Vec<Box<dyn Addon>>, which: usize, entry: u32, gifts: &[u64; 8])
     requires { which < length addons.old.items }
-    ensures count { length addons.new.items ≡ length addons.old.items }
-    ensures plans { map (λ b. plan b) addons.new.items ≡ map (λ b. plan b) addons.old.items }
+    ensures plans { TellSamePlans (λ b. plan b) addons.old.items addons.new.items }
     ensures regs { let registers = map (λ b. regs b) addons.old.items in
         map (λ b. regs b) addons.new.items
         ≡ set registers which (with_gifts gifts.now (registers_of registers which)) }
@@ -88,8 +87,7 @@ pub fn enter_at(addons: &mut Vec<Box<dyn Addon>>, which: usize, entry: u32, gift
 /// and its gifts go to registers 24 to 31. The other addons stay as they are.
 pub fn begin_at(addons: &mut Vec<Box<dyn Addon>>, which: usize, due: Due) -> Begun
     requires { which < length addons.old.items }
-    ensures count { length addons.new.items ≡ length addons.old.items }
-    ensures plans { map (λ b. plan b) addons.new.items ≡ map (λ b. plan b) addons.old.items }
+    ensures plans { TellSamePlans (λ b. plan b) addons.old.items addons.new.items }
     ensures begun { result ≡ due }
     ensures regs { let registers = map (λ b. regs b) addons.old.items in
         map (λ b. regs b) addons.new.items
@@ -104,8 +102,7 @@ pub fn begin_at(addons: &mut Vec<Box<dyn Addon>>, which: usize, due: Due) -> Beg
 /// seen anything more.
 pub fn ask_at(addons: &mut Vec<Box<dyn Addon>>, which: usize, entry: u32, step: u32) -> Ask
     requires { which < length addons.old.items }
-    ensures count { length addons.new.items ≡ length addons.old.items }
-    ensures plans { map (λ b. plan b) addons.new.items ≡ map (λ b. plan b) addons.old.items }
+    ensures plans { TellSamePlans (λ b. plan b) addons.old.items addons.new.items }
     ensures regs { map (λ b. regs b) addons.new.items ≡ map (λ b. regs b) addons.old.items }
     ensures seen { map (λ b. seen b) addons.new.items ≡ map (λ b. seen b) addons.old.items }
     ensures asked { let registers = registers_of (map (λ b. regs b) addons.old.items) which in
@@ -119,8 +116,7 @@ pub fn ask_at(addons: &mut Vec<Box<dyn Addon>>, which: usize, entry: u32, step: 
 /// The other addons stay as they are, and none has seen anything more.
 pub fn note_at(addons: &mut Vec<Box<dyn Addon>>, which: usize, entry: u32, step: u32, reply: &Reply)
     requires { which < length addons.old.items }
-    ensures count { length addons.new.items ≡ length addons.old.items }
-    ensures plans { map (λ b. plan b) addons.new.items ≡ map (λ b. plan b) addons.old.items }
+    ensures plans { TellSamePlans (λ b. plan b) addons.old.items addons.new.items }
     ensures others { let before = map (λ b. regs b) addons.old.items in
         OthersStay before (map (λ b. regs b) addons.new.items) which }
     ensures kept { let before = registers_of (map (λ b. regs b) addons.old.items) which in

@@ -46,12 +46,12 @@ use Rattle.shared_hub.specs.SharedTries.{given_by}
 use Rattle.env_teardown.specs.TeardownSteps.{Shows}
 use Rattle.env_loop.specs.FollowedRuns.{Asks, IsRecordedRun, taken_in, HasNumbers}
 use Rattle.env_loop.specs.HubTurns.{IsHubTurn}
-use Rattle.env_loop.specs.Recording.{AddonStates, machine_of, HasSeen, IsOf, IsRecorded}
+use Rattle.env_loop.specs.Recording.{AddonStates, machine_of, HasSeen, IsOf, IsRecorded, RecordsOwn}
 use Rattle.env_loop.specs.RecordedRuns.{Run, IsSoundEnvironment, IsAwaited, IsOwedEnd, IsRunning, owes_hub, FitsHub}
 use Rattle.env_loop.specs.Turns.{IsTold, OnlyInnermostChanges, delivery_told, hub_event}
 use Rattle.env_loop.proofs.FrameTurns.{HasTopFrame, head-stands, stands-so}
 use Rattle.env_loop.proofs.HandedOver.{hands-owned}
-use Rattle.env_loop.proofs.HubGoing.{hub-is, goes-at-hub}
+use Rattle.env_loop.proofs.HubGoing.{hub-is, IsRecordedAtHub, goes-at-hub}
 use Rattle.env_loop.proofs.RegisterTurns.{Kept, asks-of-run, told-others, asking-touched, registers_after_reply-in}
 use Rattle.env_loop.proofs.SeenLists.{seen-same}
 use Rattle.env_loop.proofs.SharedEntries.{entries-recorded}
@@ -68,7 +68,7 @@ module _ (s : Setting) (plans : List Plan) (core : Core) (hub : Hub) (history : 
     (told : IsTold plans all.registers core.env.frames r now.registers) (unseen : now.seen ≡ all.seen) where
   answered-recorded : Asks s all.registers core.env.frames (ask.Do c.call)
       → IsRecorded s core hub history all firsts
-      → IsRecorded s (after_answer c r (length history + 1) core) (hub_step hub (handed_entry c r)).after (history ++ one (handed_entry c r)) now firsts
+      → RecordsOwn s (after_answer c r (length history + 1) core) (hub_step hub (handed_entry c r)).after (history ++ one (handed_entry c r)) now firsts
   answered-recorded asks recorded =
       let idle : Core = record core { awaited = None } in
       let rec : IsRecorded s idle hub history all firsts = settled s core hub history all firsts recorded in
@@ -95,7 +95,7 @@ answered-run : (s : Setting) (n : Numbers) (plans : List Plan) (old : Run) (c : 
     → AddsEntry before (handed_entry c r) after → is_full (hub_room n before) c.call ≡ false
     → IsTold plans all.registers old.core.env.frames r now.registers → now.seen ≡ all.seen
     → IsRecordedRun s (taken_in before.history old) before.history all firsts
-    → IsRecordedRun s (record { core = after_answer c r (length after.history) old.core; begun = old.begun; ending = None }) after.history now firsts
+    → IsRecordedAtHub s (record { core = after_answer c r (length after.history) old.core; begun = old.begun; ending = None }) after.history now firsts
 answered-run s n plans old c r before after all now firsts led numbers of sound w awaited adds fits told unseen joined =
     let x : Entry = handed_entry c r in
     let h : Hub = hub_along (opening_of s).hub before.history in
@@ -106,19 +106,17 @@ answered-run s n plans old c r before after all now firsts led numbers of sound 
     ∙ ap (λ (g : Hub). is_full (history_room g (length before.history) n.limits.history) c.call) (sym same) ∙ fits in
     let asks : Asks s all.registers old.core.env.frames (ask.Do c.call) =
     subst (λ o. IfSome o (λ (d : SharedCall). Asks s all.registers old.core.env.frames (ask.Do d.call))) awaited joined.owed.call in
-    let recorded : IsRecorded s (after_answer c r (length before.history + 1) old.core) (hub_step h x).after (before.history ++ one x) now firsts =
+    let recorded : RecordsOwn s (after_answer c r (length before.history + 1) old.core) (hub_step h x).after (before.history ++ one x) now firsts =
     answered-recorded s plans core h before.history all now firsts c r (record { count = of.count; first = of.first }) sound w
     (subst (λ (g : Hub). IsHubNext g x) same adds.next) room told unseen
     asks joined.recorded in
-    let P : ℕ → Hub → Type 0 = λ k g. IsRecorded s (after_answer c r k old.core) g (before.history ++ one x) now firsts in
-    let Q : List Entry → Type 0 = λ ks. IsRecorded s (after_answer c r (length ks) old.core) (hub_along (opening_of s).hub ks) ks now firsts in
-    record {
-      recorded =
-          subst Q (sym adds.history)
-          (subst (λ (k : ℕ). P k (hub_along (opening_of s).hub (before.history ++ one x))) (sym (length-append before.history (one x)))
-          (subst (λ (g : Hub). P (length before.history + 1) g) (sym (along-more (opening_of s).hub before.history x)) recorded));
-      owed = record { call = tt; end = tt };
-    }
+    let P : ℕ → Hub → Type 0 = λ k g. RecordsOwn s (after_answer c r k old.core) g (before.history ++ one x) now firsts in
+    let Q : List Entry → Type 0 = λ ks. RecordsOwn s (after_answer c r (length ks) old.core) (hub_along (opening_of s).hub ks) ks now firsts in
+    let whole : Q after.history =
+    subst Q (sym adds.history)
+    (subst (λ (k : ℕ). P k (hub_along (opening_of s).hub (before.history ++ one x))) (sym (length-append before.history (one x)))
+    (subst (λ (g : Hub). P (length before.history + 1) g) (sym (along-more (opening_of s).hub before.history x)) recorded)) in
+    record { joined = record { recorded = whole.recorded; owed = record { call = tt; end = tt } }; own = λ none. whole.own }
 
 -- the environment stays sound
 counted-within : (fs : List Frame) → asks_made fs < most_asks → All (λ f. f.asks ≤ most_asks) fs → All (λ f. f.asks ≤ most_asks) (ask_counted fs)

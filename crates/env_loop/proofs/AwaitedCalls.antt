@@ -54,6 +54,7 @@ settled s core hub history all firsts r = record {
   position = r.position;
   rises = r.rises;
   parted = r.parted;
+  placed = r.placed;
 }
 
 -- it is a call of the innermost frame, ..

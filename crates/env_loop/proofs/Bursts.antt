@@ -1,5 +1,5 @@
 -- Several turns at the hub: what they add up to, and where the next event is the hub's.
-use Rattle.std.proofs.Common.{◌≡◌, ◌≢◌, ◌∙◌, ◌↔◌, ℕ, ◌+◌, ◌≤◌, nat_lt, arith, Bool, true, false, not, ◌&&◌, ◌||◌, cond, List, [], ◌∷◌, ◌++◌, drop, length, refl, ap, sym, subst, Option, Some, None, is_some, append-nil, append_assoc, length-append}
+use Rattle.std.proofs.Common.{◌≡◌, ◌≢◌, ◌∙◌, ◌↔◌, ℕ, zero, suc, add-one, ◌+◌, ◌≤◌, nat_lt, arith, Bool, true, false, not, ◌&&◌, ◌||◌, cond, List, [], ◌∷◌, ◌++◌, drop, length, refl, ap, sym, subst, Option, Some, None, is_some, append-nil, append_assoc, length-append}
 use Rattle.std.proofs.lemmas.Bool.{ltb-true}
 use Rattle.std.proofs.lemmas.List.Elements.{All-nil, All-cons, All-append}
 use Rattle.napi_types.specs.declared.call.Ask.TheVariants as ask
@@ -25,7 +25,7 @@ use Rattle.env_loop.specs.declared.run.HubTurn.TheVariants as hub_turn
 use Rattle.env_loop.specs.declared.turn.LocalTurn.{LocalTurn}
 use Rattle.env_loop.specs.declared.turn.LocalTurn.TheVariants as turn
 use Rattle.env_loop.specs.ActorRuns.{AddsEntryOf}
-use Rattle.env_loop.specs.Bursts.{asks_no_more, silent_end, is_of_hub, comes_over, comes_to_hub, made_by, AreHubNext, AddsEntriesOf, IsPaid, IsBurst}
+use Rattle.env_loop.specs.Bursts.{asks_no_more, silent_end, is_of_hub, comes_over, comes_to_hub, made_by, AreHubNext, AddsEntriesOf, IsPaid, IsBurst, RunAtHub, BurstBetween, TurnsOn, StopsAtAsks}
 use Rattle.env_loop.specs.FollowedRuns.{RunGoesOn, GoesOnAt}
 use Rattle.env_loop.specs.Recording.{AddonStates}
 use Rattle.env_loop.specs.RecordedRuns.{Run, IsSoundEnvironment, IsRunning, owes_hub, FitsHub}
@@ -138,6 +138,34 @@ turns-then n plans later j k m a b c s t u x y z planned is first last =
       goes = λ v firsts numbers of f.
           on v firsts numbers (record { count = of.count ∙ sym first.kept.addons; first = of.first }) (first.goes v firsts numbers of f);
     }
+
+-- TURN BY TURN
+-- a turn that made an entry, where the next event was the hub's
+pub on-more : (n : Numbers) (plans later : List Plan) (t : HubTurn) (k m : ℕ) (old mid new : RunAtHub) → later ≡ plans → k + 1 ≡ m → t ≡ hub_turn.Made → TurnsOn n plans k old mid
+    → comes_to_hub mid.run ≡ true → BurstBetween n later (made_by t) mid new → TurnsOn n plans m old new
+on-more n plans later t k m old mid new planned is made on comes last =
+    let one_made : BurstBetween n later 1 mid new = subst (λ (u : HubTurn). BurstBetween n later (made_by u) mid new) made last in
+    subst (λ (j : ℕ). TurnsOn n plans j old new) (sym (add-one k) ∙ is) (mid, on, comes, subst (λ ps. BurstBetween n ps 1 mid new) planned one_made)
+
+-- and one that made none
+pub on-idle : (n : Numbers) (plans later : List Plan) (t : HubTurn) (k : ℕ) (old mid new : RunAtHub) → later ≡ plans → t ≢ hub_turn.Made → TurnsOn n plans k old mid
+    → BurstBetween n later (made_by t) mid new → TurnsOn n plans k old new
+on-idle n plans later t zero old mid new planned none on last =
+    turns-then n plans later 0 (made_by t) 0 old.run mid.run new.run old.hub mid.hub new.hub old.addons mid.addons new.addons planned (none-more t 0 none) on last
+on-idle n plans later t (suc k) old mid new planned none on last =
+    let at = on.0 in (
+      at,
+      on.1,
+      on.2,
+      turns-then n plans later 1 (made_by t) 1 at.run mid.run new.run at.hub mid.hub new.hub at.addons mid.addons new.addons planned (none-more t 1 none) on.3 last,
+    )
+
+-- the first turn, and those behind it
+pub stops-at-asks : (n : Numbers) (plans later : List Plan) (t : HubTurn) (k : ℕ) (old first new : RunAtHub) → later ≡ plans → t ≡ hub_turn.Made → TurnsOn n later k first new
+    → BurstBetween n plans (made_by t) old first → StopsAtAsks n plans (k + 1) old new
+stops-at-asks n plans later t k old first new planned made on one_made =
+    subst (λ (j : ℕ). StopsAtAsks n plans j old new) (sym (add-one k))
+    (first, subst (λ (u : HubTurn). BurstBetween n plans (made_by u) old first) made one_made, subst (λ ps. TurnsOn n ps k first new) planned on)
 
 -- WHERE THE NEXT EVENT IS THE HUB'S
 -- the turn that is to be made where nothing is owed, and no frame stands

@@ -39,12 +39,12 @@ use Rattle.env_core.specs.Journal.{last_reply}
 use Rattle.env_core.specs.Sharing.{awaiting}
 use Rattle.env_loop.specs.declared.run.FrameEnd.{FrameEnd}
 use Rattle.env_loop.specs.FollowedRuns.{Asks}
-use Rattle.env_loop.specs.Recording.{AddonStates, machine_of, HasSeen, Continues}
+use Rattle.env_loop.specs.Recording.{AddonStates, machine_of, HasSeen, IsRecorded, Continues}
 use Rattle.env_loop.specs.RecordedRuns.{Run, IsSoundEnvironment, Holds, IsRunning}
 use Rattle.env_loop.specs.Turns.{IsTold, OnlyInnermostChanges, IsTurn, OwesMore}
 use Rattle.env_loop.proofs.LocalGoing.{if_some-none, local-goes}
 use Rattle.env_loop.proofs.MadeTurns.{running-idle, states-same, made-turn}
-use Rattle.env_loop.proofs.Recordings.{local-grown}
+use Rattle.env_loop.proofs.Recordings.{own-grown}
 use Rattle.env_loop.proofs.TurnSteps.{TellsNoFrame, reply-tells, call-next, same-room}
 use Rattle.env_loop.proofs.FrameTurns.{InFrame, in-stands, in-some, in-calls, in-spare, sound-asked}
 use Rattle.env_loop.proofs.RegisterTurns.{others-given, given-others, given-kept, Kept, told-others, asking-touched, callee-touched, asks-in, asked-in, registers_after_reply-in}
@@ -59,7 +59,8 @@ call_change-goes : {ps : List Plan} {core : Core} {all : AddonStates} {f : Frame
     → (c : Call) (r : Reply) (new : Core) (now : AddonStates) → f.asks < most_asks
     → ask.Do c ≡ a → is_shared c ≡ false → Replies core c r new → IsTold ps all.registers core.env.frames r now.registers → now.seen ≡ all.seen
     → Continues ps core all (after_change (call_change core.env c (number_of r.out)) core) now
-call_change-goes {ps} {core} {all} {f} {a} i c r new now below is local reply told same = λ s hub history firsts of rec.
+call_change-goes {ps} {core} {all} {f} {a} i c r new now below is local reply told same = λ s hub history firsts of own.
+    let rec : IsRecorded s core hub history all firsts = own.recorded in
     let k : ℕ = number_of r.out in
     let change : Change = call_change core.env c k in
     let m : Machine = machine_of s.limits core hub history in
@@ -73,7 +74,7 @@ call_change-goes {ps} {core} {all} {f} {a} i c r new now below is local reply to
     let tells : TellsNoFrame o = reply-tells core.env c k in
     let next : Kept s.plans now.registers (caller_after_reply s.plans rec.own core.env.frames change.entry.reply) =
     registers_after_reply-in s ps core hub history all firsts now.registers core.env.frames change.entry.reply of rec i.sound.owned.frames told_here in
-    local-grown s core hub history all firsts rec a change (caller_after_reply s.plans rec.own core.env.frames change.entry.reply) now
+    own-grown s core hub history all firsts own a change (caller_after_reply s.plans rec.own core.env.frames change.entry.reply) now
     (call-next m a c o k f (tail core.env.frames) (in-stands i) is local tells.uncut number
     (in-calls i c is below) fresh_o room
     ∙ ap (λ x. locally m x true) (asked_change-call_change core.env c k reply.at_once))
@@ -98,7 +99,7 @@ asked-turn {ps} {old} {all} {f} {a} i c n change new now idle unended same made 
     (ap (λ (x : Change). x.after.addons) (sym same) ∙ course.addons) (ap (λ (x : Change). stage_of x.after.phase) (sym same) ∙ ap stage_of course.phase)
     others untouched
     (subst P (sym (begins-none e (in-some i))) (seen-same all.seen now.seen unseen))
-    (local-goes ps old (record old { core = new }) all now (subst Q (sym made) goes) (ap (λ (x : Core). x.awaited) made ∙ idle) unended)
+    (local-goes ps old (record old { core = new }) all now (subst Q (sym made) goes) unended (ap (λ (x : Core). x.awaited) made ∙ idle) unended)
 
 pub replied-turn : {ps : List Plan} {old : Run} {all : AddonStates} {f : Frame} {a : Ask} → InFrame ps old.core.env all.registers f a
     → (c : Call) (r : Reply) (new : Core) (now : AddonStates) → old.core.awaited ≡ None → old.ending ≡ None
@@ -144,7 +145,8 @@ enter_change-goes : {ps : List Plan} {core : Core} {all : AddonStates} {f : Fram
     → now.registers ≡ with_addon_gifts all.registers (callee_of core.env.heap g).addon (call_gifts core.env.heap receiver g args)
     → now.seen ≡ all.seen
     → Continues ps core all (after_change (enter_change receiver g args core.env) core) now
-enter_change-goes {ps} {core} {all} {f} {a} e receiver g args target given_gifts new now below is enters enough given same = λ s hub history firsts of rec.
+enter_change-goes {ps} {core} {all} {f} {a} e receiver g args target given_gifts new now below is enters enough given same = λ s hub history firsts of own.
+    let rec : IsRecorded s core hub history all firsts = own.recorded in
     let c : Call = call.CallFunction receiver g args in
     let change : Change = enter_change receiver g args core.env in
     let m : Machine = machine_of s.limits core hub history in
@@ -156,7 +158,7 @@ enter_change-goes {ps} {core} {all} {f} {a} e receiver g args target given_gifts
     let there : i < length all.registers = omega (arith, callee, enough) in
     let kept : Kept s.plans now.registers (with_addon_gifts rec.own i gifts) =
     given-kept s.plans all.registers rec.own now.registers i gifts rec.count rec.agrees inside there given in
-    local-grown s core hub history all firsts rec a change (with_addon_gifts rec.own i gifts) now
+    own-grown s core hub history all firsts own a change (with_addon_gifts rec.own i gifts) now
     (call-next m a c change.entry.reply.out 0 f (tail core.env.frames) (in-stands e) is refl refl refl (in-calls e c is below) refl room
     ∙ ap (λ x. locally m x true) (asked_change-enter_change core.env receiver g args 0 enters.called.accepted))
     refl (asked-in e s hub history firsts of rec)
@@ -262,9 +264,11 @@ shared-owes {ps} {old} {all} {f} {a} i c unended is = record {
             position = r.position;
             rises = r.rises;
             parted = r.parted;
+            placed = r.placed;
           };
           owed = record { call = subst D (sym is) (asks-in i s of); end = if_some-none _ unended };
         };
+        own = x.own;
       };
 }
 

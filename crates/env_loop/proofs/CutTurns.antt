@@ -117,6 +117,7 @@ stopped-ends {ps} {old} {all} {f} {a} i idle unended below c t w new is reason s
         asks-in i s of,
         ap (λ x. may_cut m a x) reason ∙ ap (λ b. may_cut m b (why_stopped t)) (sym is)
             ∙ stopped-may s old.core new (hub_along (opening_of s).hub front) front c t rec.recorded.limit (in-calls i c is below) stops,
+        λ owed. absurd (owed unended),
       );
 }
 
@@ -140,7 +141,7 @@ spent-ends ps old all f sound idle unended top spent =
     let would = some-ask ps all.registers f in
     let i : InFrame ps old.core.env all.registers f would.0 = record { sound = sound; top = top; asked = would.1 } in
     let all_made : (asks_made old.core.env.frames == most_asks) ≡ true = ap (λ gs. asks_made gs == most_asks) (in-stands i) ∙ ap (λ k. k == most_asks) spent in
-    record { sound = sound; some = in-some i; idle = idle; free = λ hub. unended; may = λ s front firsts of rec. (refl, would.0, asks-in i s of, all_made) }
+    record { sound = sound; some = in-some i; idle = idle; free = λ hub. unended; may = λ s front firsts of rec. (refl, would.0, asks-in i s of, all_made, λ owed. absurd (owed unended)) }
 
 -- ITS CUT IS OWED
 -- a run that owes nothing to the hub owes the end of no frame of a duty of the hub
@@ -167,12 +168,13 @@ owed-ends ps old all how runs unowed owed =
       may = λ s front firsts of rec.
           let m : Machine = machine_of s.limits old.core (hub_along (opening_of s).hub front) front in
           let O : Option FrameEnd → Type 0 = λ o. IfSome o (MayEndSo s all.registers m) in
-          by s all.registers m how ends.leaves (subst O owed rec.owed.end);
+          by s all.registers m how (unowed-local old how unowed owed) ends.leaves (subst O owed rec.owed.end);
     }
   where
-    by : (s : Setting) (rss : Registers) (m : Machine) (h : FrameEnd) → (h ≡ end.Leaves → is_hub_duty (duty_of old.core.env.frames) ≡ true) → MayEndSo s rss m h
-        → MayEndAs s rss m None h
-    by s rss m end.Leaves leaves may =
-        let no : true ≡ false = sym (leaves refl) ∙ unowed-local old how unowed owed in
+    by : (s : Setting) (rss : Registers) (m : Machine) (h : FrameEnd) → is_hub_duty (duty_of m.env.frames) ≡ false
+        → (h ≡ end.Leaves → is_hub_duty (duty_of m.env.frames) ≡ true) → MayEndSo s rss m h
+        → MayEndAs s rss m old.ending None h
+    by s rss m end.Leaves local leaves may =
+        let no : true ≡ false = sym (leaves refl) ∙ local in
         cc
-    by s rss m (end.Cut w) leaves may = (refl, may.0, may.1, may.2)
+    by s rss m (end.Cut w) local leaves may = (refl, may.0, may.1, may.2, λ some. may.3 local)

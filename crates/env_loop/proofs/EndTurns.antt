@@ -1,16 +1,21 @@
 -- A turn in which the innermost frame ends, or in which its end is owed to the hub.
-use Rattle.std.proofs.Common.{◌≡◌, ◌≢◌, ◌<◌, ℕ, ◌-◌, ◌||◌, inl, Bool, true, false, List, [], ◌∷◌, refl, ap, subst, sym, ◌∙◌, Option, Some, None, IfSome, is_some}
+use Rattle.std.proofs.Common.{◌≡◌, ◌≢◌, ◌<◌, ℕ, ◌-◌, ◌&&◌, ◌||◌, inl, Bool, true, false, List, [], ◌∷◌, refl, ap, subst, sym, ◌∙◌, Option, Some, None, IfSome, IsTrue, is_some}
 use Rattle.std.specs.List.{All}
 use Rattle.std.specs.Option.{option_to_list}
 use Rattle.napi_types.specs.declared.call.Ask.{Ask}
 use Rattle.napi_types.specs.declared.call.Ask.TheVariants as ask
 use Rattle.napi_types.specs.declared.duties.DueInfo.{DueInfo}
+use Rattle.napi_types.specs.declared.entry.Actor.{Actor}
 use Rattle.napi_types.specs.declared.entry.Duty.{Duty}
 use Rattle.napi_types.specs.declared.entry.Entry.{Entry}
+use Rattle.napi_types.specs.declared.entry.Out.{Out}
+use Rattle.napi_types.specs.declared.entry.Out.TheVariants as out
 use Rattle.napi_types.specs.declared.entry.Reply.{Reply}
 use Rattle.napi_types.specs.declared.entry.Why.{Why}
 use Rattle.napi_types.specs.declared.ids.HandleId.{HandleId}
+use Rattle.napi_types.specs.plain.Entries.{cut_of}
 use Rattle.napi_types.specs.plain.Lists.{head, tail}
+use Rattle.napi_types.specs.plain.Weave.{Journal, weave}
 use Rattle.napi_types.specs.parts.Duties.{duties_of, AreNested}
 use Rattle.napi_types.specs.parts.Frames.{Frame, duty_of, is_hub_duty, at_last_ask, most_asks}
 use Rattle.napi_types.specs.scripts.Plans.{Plan, plan_of, Registers, registers_of}
@@ -20,6 +25,7 @@ use Rattle.napi_types.specs.environment.Ends.{end_change}
 use Rattle.napi_types.specs.environment.Environment.{Environment}
 use Rattle.napi_types.specs.hub.Hub.{stage_of, Hub}
 use Rattle.napi_types.specs.hub.HubSteps.{hub_along}
+use Rattle.napi_types.specs.runs.InPlace.{is_behind_own, asks_hub, is_stopped, stands_in_place, last_actor}
 use Rattle.napi_types.specs.runs.Machine.{Machine}
 use Rattle.napi_types.specs.runs.Plan.{caller_after_reply, after_event}
 use Rattle.napi_types.specs.runs.Setting.{Setting, opening_of}
@@ -29,14 +35,15 @@ use Rattle.napi_types.proofs.environment.FrameChanges.{KeepsButFrame, ended-keep
 use Rattle.napi_types.proofs.environment.FrameEnds.{Ends, ended-ends}
 use Rattle.napi_types.proofs.environment.Owners.{owned-ended}
 use Rattle.napi_types.proofs.environment.StandingFrames.{duties-plain, duty-alone}
+use Rattle.napi_types.proofs.runs.InPlace.{own-placed, stopped-placed}
 use Rattle.addon_trait.specs.Addons.{OthersStay}
 use Rattle.env_core.specs.Core.{Core, after_change}
 use Rattle.env_loop.specs.declared.run.FrameEnd.{FrameEnd}
 use Rattle.env_loop.specs.declared.run.FrameEnd.TheVariants as end
 use Rattle.env_loop.specs.declared.turn.LocalTurn.{LocalTurn}
 use Rattle.env_loop.specs.declared.turn.LocalTurn.TheVariants as turn
-use Rattle.env_loop.specs.FollowedRuns.{Asks, MayEndSo, IsRecordedRun}
-use Rattle.env_loop.specs.Recording.{AddonStates, machine_of, HasSeen, IsOf, IsRecorded}
+use Rattle.env_loop.specs.FollowedRuns.{Asks, StoppedAtHub, MayEndSo, IsRecordedRun}
+use Rattle.env_loop.specs.Recording.{AddonStates, machine_of, HasSeen, IsOf, IsRecorded, RecordsOwn}
 use Rattle.env_loop.specs.RecordedRuns.{Run, IsSoundEnvironment, Holds, IsRunning, cut_at}
 use Rattle.env_loop.specs.Turns.{IsTold, OnlyInnermostChanges, IsTurn, OwesMore, MatchTurn, turn_after, EndsHere, EndsOrOwes}
 use Rattle.env_loop.proofs.LocalGoing.{if_some-none}
@@ -56,46 +63,64 @@ abbrev pub IsToldEnd : List Plan → Registers → Environment → Option Handle
 IsToldEnd ps all e v cut now = IsTold ps all (callers_of e) (end_change v cut e).entry.reply now
 
 -- WHY IT MAY END
--- the innermost frame may end so: it asks to leave this, or it may be cut at what it asks, and leaves nothing
-abbrev pub MayEndAs : Setting → Registers → Machine → Option HandleId → FrameEnd → Type 0
-MayEndAs s rss m v end.Leaves = Asks s rss m.env.frames (ask.Leave v) × (may_ask m.env ≡ true)
-MayEndAs s rss m v (end.Cut w) = (v ≡ None) × (a : Ask) × Asks s rss m.env.frames a × (may_cut m a w ≡ true)
+-- the innermost frame may end so: it asks to leave this, where no end was owed, or it may be cut at what it asks, and leaves nothing. Where an end was owed the hub
+-- had stopped it
+abbrev pub MayEndAs : Setting → Registers → Machine → Option FrameEnd → Option HandleId → FrameEnd → Type 0
+MayEndAs s rss m owed v end.Leaves = Asks s rss m.env.frames (ask.Leave v) × (may_ask m.env ≡ true) × (owed ≡ None)
+MayEndAs s rss m owed v (end.Cut w) = (v ≡ None) × (a : Ask) × Asks s rss m.env.frames a × (may_cut m a w ≡ true) × (owed ≢ None → StoppedAtHub a w)
 
-may-end : (s : Setting) (rss : Registers) (m : Machine) (v : Option HandleId) (how : FrameEnd) → MayEndAs s rss m v how → MayEndSo s rss m how
-may-end s rss m v end.Leaves may = (v, may.0, may.1)
-may-end s rss m v (end.Cut w) may = (may.1, may.2, may.3)
+may-end : (s : Setting) (rss : Registers) (m : Machine) (owed : Option FrameEnd) (v : Option HandleId) (how : FrameEnd) → is_hub_duty (duty_of m.env.frames) ≡ true
+    → MayEndAs s rss m owed v how → MayEndSo s rss m how
+may-end s rss m owed v end.Leaves hub may = (v, may.0, may.1)
+may-end s rss m owed v (end.Cut w) hub may = (may.1, may.2, may.3, λ local. (let no : true ≡ false = sym hub ∙ local in cc))
 
--- its end is the step that comes where this is asked
-record EndsNext (s : Setting) (rss : Registers) (m : Machine) (v : Option HandleId) (cut : Option Why) : Type 0 where
+-- its end is the step that comes where this is asked, in its place behind this actor
+record EndsNext (s : Setting) (rss : Registers) (m : Machine) (before : Option Actor) (v : Option HandleId) (cut : Option Why) : Type 0 where
   pub ask : Ask
   pub asked : Asks s rss m.env.frames ask
   pub next : env_step m ask (end_change v cut m.env).entry.reply.out m.env.frames ≡ locally m (end_change v cut m.env) true
+  pub placed : IsTrue (stands_in_place Journal before ask (end_change v cut m.env).entry.reply.out)
 
-ends-next : (s : Setting) (rss : Registers) (m : Machine) (v : Option HandleId) (how : FrameEnd) → m.env.frames ≢ []
-    → is_hub_duty (duty_of m.env.frames) ≡ false
-    → MayEndAs s rss m v how → EndsNext s rss m v (cut_at how)
-ends-next s rss m v end.Leaves some local may =
+-- a frame that is cut so was stopped so
+stopped-so : (o : Out) (w : Why) → cut_of o ≡ Some w → is_stopped o ≡ is_stopped (out.Cut w)
+stopped-so (out.Cut v) w is = let same : v ≡ w = cc in ap (λ x. is_stopped (out.Cut x)) same
+stopped-so _ w is = cc
+
+-- the end of a frame that is cut stands in its place
+cut-placed : (owed : Option FrameEnd) (before : Option Actor) (a : Ask) (w : Why) (o : Out) → cut_of o ≡ Some w → (owed ≡ None → IsTrue (is_behind_own before))
+    → (owed ≢ None → StoppedAtHub a w) → IsTrue (stands_in_place Journal before a o)
+cut-placed None before a w o told own stopped = own-placed Journal before a o (own refl)
+cut-placed (Some how) before a w o told own stopped =
+    stopped-placed Journal before a o (ap (λ b. asks_hub a && b) (stopped-so o w told) ∙ stopped (λ none. cc))
+
+ends-next : (s : Setting) (rss : Registers) (m : Machine) (before : Option Actor) (owed : Option FrameEnd) (v : Option HandleId) (how : FrameEnd) → m.env.frames ≢ []
+    → is_hub_duty (duty_of m.env.frames) ≡ false → (owed ≡ None → IsTrue (is_behind_own before))
+    → MayEndAs s rss m owed v how → EndsNext s rss m before v (cut_at how)
+ends-next s rss m before owed v end.Leaves some local own may =
     let st : HasTopFrame m.env.frames = stands-so m.env.frames some in
     record {
       ask = ask.Leave v;
       asked = may.0;
       next = leave-next m (ask.Leave v) v (end_change v None m.env).entry.reply.out st.top st.rest st.is local refl (ended-ends v None m.env).told may.1;
+      placed = own-placed Journal before (ask.Leave v) (end_change v None m.env).entry.reply.out (own may.2);
     }
-ends-next s rss m v (end.Cut w) some local may =
+ends-next s rss m before owed v (end.Cut w) some local own may =
     let st : HasTopFrame m.env.frames = stands-so m.env.frames some in
-    let P : Option HandleId → Type 0 = λ x. EndsNext s rss m x (Some w) in
+    let told : cut_of (end_change None (Some w) m.env).entry.reply.out ≡ Some w = (ended-ends None (Some w) m.env).told in
+    let P : Option HandleId → Type 0 = λ x. EndsNext s rss m before x (Some w) in
     subst P (sym may.0) (record {
       ask = may.1;
       asked = may.2;
-      next = cut-next m may.1 w (end_change None (Some w) m.env).entry.reply.out st.top st.rest st.is local (ended-ends None (Some w) m.env).told may.3;
+      next = cut-next m may.1 w (end_change None (Some w) m.env).entry.reply.out st.top st.rest st.is local told may.3;
+      placed = cut-placed owed before may.1 w (end_change None (Some w) m.env).entry.reply.out told own may.4;
     })
 
 -- THE RUN GOES ON
 ended-goes : {ps : List Plan} {core : Core} {all : AddonStates} → IsSoundEnvironment core.env → (v : Option HandleId) (cut : Option Why) (now : AddonStates)
     → IsToldEnd ps all.registers core.env v cut now.registers → now.seen ≡ all.seen
     → (s : Setting) (hub : Hub) (history : List Entry) (firsts : List (List DueInfo)) → IsOf s ps core
-    → IsRecorded s core hub history all firsts → EndsNext s all.registers (machine_of s.limits core hub history) v cut
-    → IsRecorded s (after_change (end_change v cut core.env) core) hub history now firsts
+    → IsRecorded s core hub history all firsts → EndsNext s all.registers (machine_of s.limits core hub history) (last_actor None (weave core.journal history)) v cut
+    → RecordsOwn s (after_change (end_change v cut core.env) core) hub history now firsts
 ended-goes {ps} {core} {all} sound v cut now told same s hub history firsts of rec n =
     let change : Change = end_change v cut core.env in
     let m : Machine = machine_of s.limits core hub history in
@@ -106,7 +131,7 @@ ended-goes {ps} {core} {all} sound v cut now told same s hub history firsts of r
     registers_after_reply-in s ps core hub history all firsts now.registers callers x.reply of rec
     (tail-below core.env.addons core.env.frames sound.owned.frames) told in
     local-grown s core hub history all firsts rec n.ask change (caller_after_reply s.plans rec.own callers x.reply) now
-    (by-env m n.ask x (locally m change true) e.who n.next)
+    (by-env m n.ask x (locally m change true) e.who n.next) n.placed
     e.who (asks-of-run s of sound rec n.ask n.asked)
     (ap (λ w. after_event s.plans rec.own m n.ask x.reply w) e.is)
     keeps.count keeps.agrees
@@ -120,7 +145,7 @@ pub record MayEndInScripts (ps : List Plan) (old : Run) (all : AddonStates) (v :
   pub idle : old.core.awaited ≡ None
   pub free : is_hub_duty (duty_of old.core.env.frames) ≡ true → old.ending ≡ None
   pub may : (s : Setting) (front : List Entry) (firsts : List (List DueInfo)) → IsOf s ps old.core → IsRecordedRun s old front all firsts
-      → MayEndAs s all.registers (machine_of s.limits old.core (hub_along (opening_of s).hub front) front) v how
+      → MayEndAs s all.registers (machine_of s.limits old.core (hub_along (opening_of s).hub front) front) old.ending v how
 
 -- IT ENDS
 ended-turn : (ps : List Plan) (old new : Run) (all now : AddonStates) (v : Option HandleId) (how : FrameEnd) → MayEndInScripts ps old all v how
@@ -140,22 +165,24 @@ ended-turn ps old new all now v how i local here same =
     (subst U (sym k.frames) (caller-touched ps all.registers now.registers e.frames (tail e.frames) change.entry.reply i.some here.told))
     (subst P (sym (begins-none e i.some)) (seen-same all.seen now.seen same))
     (λ history s firsts of f.
-    let R : Core → Type 0 = λ c. IsRecorded s c (hub_along (opening_of s).hub f.front) f.front now firsts in
+    let R : Core → Type 0 = λ c. RecordsOwn s c (hub_along (opening_of s).hub f.front) f.front now firsts in
+    let ended : R new.core =
+    subst R (sym here.ended) (ended-goes i.sound v cut now here.told same s (hub_along (opening_of s).hub f.front) f.front firsts of f.joined.recorded
+    (ends-next s all.registers (machine_of s.limits old.core (hub_along (opening_of s).hub f.front) f.front) (last_actor None (weave old.core.journal f.front)) old.ending v how
+    i.some local f.own (i.may s f.front firsts of f.joined))) in
     record {
       front = f.front;
       rest = f.rest;
       history_is = f.history_is;
       others = f.others;
       joined = record {
-        recorded = subst R (sym here.ended) (ended-goes i.sound v cut now here.told same s (hub_along (opening_of s).hub f.front) f.front firsts
-            of f.joined.recorded
-            (ends-next s all.registers (machine_of s.limits old.core (hub_along (opening_of s).hub f.front) f.front) v how i.some local
-            (i.may s f.front firsts of f.joined)));
+        recorded = ended.recorded;
         owed = record {
           call = if_some-none _ (ap (λ (c : Core). c.awaited) here.ended ∙ i.idle);
           end = if_some-none _ here.ending;
         };
       };
+      own = λ none. ended.own;
     })
 
 -- ITS END IS OWED
@@ -177,9 +204,10 @@ owed-end ps old all v how i hub = record {
       recorded = f.joined.recorded;
       owed = record {
         call = f.joined.owed.call;
-        end = may-end s all.registers (machine_of s.limits old.core (hub_along (opening_of s).hub f.front) f.front) v how (i.may s f.front firsts of f.joined);
+        end = may-end s all.registers (machine_of s.limits old.core (hub_along (opening_of s).hub f.front) f.front) old.ending v how hub (i.may s f.front firsts of f.joined);
       };
     };
+    own = λ none. (let no : Some how ≡ None = none in cc);
   };
 }
   where
@@ -229,7 +257,7 @@ left-may {ps} {old} {all} {f} v i idle unended below = record {
   some = in-some i;
   idle = idle;
   free = λ hub. unended;
-  may = λ s front firsts of rec. (asks-in i s of, in-asks i below);
+  may = λ s front firsts of rec. (asks-in i s of, in-asks i below, unended);
 }
 
 -- WHAT ENDED

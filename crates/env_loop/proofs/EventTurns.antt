@@ -35,7 +35,7 @@ use Rattle.env_teardown.specs.TeardownSteps.{Shows}
 use Rattle.env_loop.specs.FollowedRuns.{IsRecordedRun, IsFollowed, taken_in, HasNumbers, GoesOnAt}
 use Rattle.env_loop.specs.HubTurns.{SpentAtFinals, IsHubTurn, MatchHubTurn}
 use Rattle.env_loop.specs.RecordedRuns.{Run, owes_hub, IsRunning, FitsHub}
-use Rattle.env_loop.specs.Recording.{AddonStates, machine_of, AgreesWith, HasSeen, IsOf, IsRecorded}
+use Rattle.env_loop.specs.Recording.{AddonStates, machine_of, AgreesWith, HasSeen, IsOf, IsRecorded, RecordsOwn}
 use Rattle.env_loop.specs.SharedEntries.{shared_step}
 use Rattle.env_loop.specs.Turns.{event_turn, turn_at, turn_of, needs_hub, hub_event, delivery_told, begins_at_hub, OnlyInnermostChanges}
 use Rattle.env_loop.specs.declared.run.FrameEnd.{FrameEnd}
@@ -43,7 +43,7 @@ use Rattle.env_loop.specs.declared.run.HubTurn.{HubTurn}
 use Rattle.env_loop.specs.declared.run.HubTurn.TheVariants as hub_turn
 use Rattle.env_loop.specs.declared.turn.LocalTurn.TheVariants as turn
 use Rattle.env_loop.proofs.Finals.{spent-unless}
-use Rattle.env_loop.proofs.HubGoing.{hub-is, goes-at-hub}
+use Rattle.env_loop.proofs.HubGoing.{hub-is, IsRecordedAtHub, goes-at-hub}
 use Rattle.env_loop.proofs.LocalGoing.{if_some-none}
 use Rattle.env_loop.proofs.RegisterTurns.{Kept}
 use Rattle.env_loop.proofs.SeenLists.{seen-same}
@@ -58,7 +58,7 @@ pub record AtRest (run : Run) : Type 0 where
   pub ending : run.ending ≡ None
   pub unowed : owes_hub run ≡ false
 
-needs-none : (fs : List Frame) (e : Environment) → turn_at fs e ≡ turn.NeedsHub → fs ≡ []
+pub needs-none : (fs : List Frame) (e : Environment) → turn_at fs e ≡ turn.NeedsHub → fs ≡ []
 needs-none [] e h = refl
 needs-none (f ∷ fs) e h = cc
 
@@ -185,7 +185,7 @@ module _ (n : Numbers) (old : Run) (before after : HubSeen) (all now : AddonStat
 
   event-grown : (s : Setting) (firsts : List (List DueInfo)) → IsOf s s.plans old.core
       → IsRecorded s (taken_in before.history old).core before.hub before.history all firsts
-      → IsRecorded s (record old.core { env = e; position = length before.history + 1 }) (hub_step before.hub x).after (before.history ++ x ∷ []) now firsts
+      → RecordsOwn s (record old.core { env = e; position = length before.history + 1 }) (hub_step before.hub x).after (before.history ++ x ∷ []) now firsts
   event-grown s firsts of r =
       let kept : Kept s.plans now.registers (given_to r.own told) = takes.kept s.plans r.own of.count r.count r.agrees in
       let seen : HasSeen all.seen (option_to_list (told_at (machine_of s.limits old.core before.hub before.history) x.reply.out)) now.seen =
@@ -200,21 +200,22 @@ module _ (n : Numbers) (old : Run) (before after : HubSeen) (all now : AddonStat
 
   event-recorded : (s : Setting) (firsts : List (List DueInfo)) → HasNumbers s n → IsOf s s.plans old.core
       → IsRecordedRun s (taken_in before.history old) before.history all firsts
-      → IsRecordedRun s (after_hub_event old e (length after.history) begun) after.history now firsts
+      → IsRecordedAtHub s (after_hub_event old e (length after.history) begun) after.history now firsts
   event-recorded s firsts numbers of r =
       let start : Hub = (opening_of s).hub in
       let xs : List Entry = before.history ++ x ∷ [] in
       let led_to : hub_along start before.history ≡ before.hub = hub-is n s before led numbers in
       let longer : length before.history + 1 ≡ length after.history = sym (length-append before.history (x ∷ [])) ∙ sym (ap length adds.history) in
       let here : (hub_step before.hub x).after ≡ hub_along start xs = sym (along-more start before.history x ∙ ap (λ h. (hub_step h x).after) led_to) in
-      let grown : IsRecorded s (core_at (length before.history + 1)) (hub_step before.hub x).after xs now firsts =
+      let grown : RecordsOwn s (core_at (length before.history + 1)) (hub_step before.hub x).after xs now firsts =
       event-grown s firsts of (subst (λ h. IsRecorded s (taken_in before.history old).core h before.history all firsts) led_to r.recorded) in
+      let whole : RecordsOwn s (core_at (length after.history)) (hub_along start after.history) after.history now firsts =
+      subst (λ ys. RecordsOwn s (core_at (length after.history)) (hub_along start ys) ys now firsts) (sym adds.history)
+      (subst (λ h. RecordsOwn s (core_at (length after.history)) h xs now firsts) here
+      (subst (λ k. RecordsOwn s (core_at k) (hub_step before.hub x).after xs now firsts) longer grown)) in
       record {
-        recorded =
-            subst (λ ys. IsRecorded s (core_at (length after.history)) (hub_along start ys) ys now firsts) (sym adds.history)
-            (subst (λ h. IsRecorded s (core_at (length after.history)) h xs now firsts) here
-            (subst (λ k. IsRecorded s (core_at k) (hub_step before.hub x).after xs now firsts) longer grown));
-        owed = record { call = if_some-none _ rest.awaited; end = if_some-none _ rest.ending };
+        joined = record { recorded = whole.recorded; owed = record { call = if_some-none _ rest.awaited; end = if_some-none _ rest.ending } };
+        own = λ none. whole.own;
       }
 
   pub event-turn : (plans : List Plan) → e.addons ≡ old.core.env.addons → FitsHub (after_hub_event old e (length after.history) begun) after

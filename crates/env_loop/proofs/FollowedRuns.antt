@@ -61,6 +61,7 @@ module _ (s : Setting) (core : Core) (front rest : List Entry) (all : AddonState
     position = refl;
     rises = g.rises;
     parted = g.parted;
+    placed = g.placed r.placed;
   }
 
 -- WHAT IS OWED
@@ -102,7 +103,7 @@ module _ (m : Machine) (h : Hub) (n : ℕ)
   -- so the frame may still end as is owed
   end-stays : (s : Setting) (rss : Registers) (how : FrameEnd) → MayEndSo s rss m how → MayEndSo s rss (record m { hub = h; history_length = n }) how
   end-stays s rss end.Leaves may = may
-  end-stays s rss (end.Cut w) may = (may.0, may.1, cut-stays may.0 w may.2)
+  end-stays s rss (end.Cut w) may = (may.0, may.1, cut-stays may.0 w may.2, may.3)
 
   owed-end : (s : Setting) (rss : Registers) (o : Option FrameEnd) → IfSome o (MayEndSo s rss m) → IfSome o (MayEndSo s rss (record m { hub = h; history_length = n }))
   owed-end s rss None may = may
@@ -153,6 +154,7 @@ others-may-add s run history rest all firsts f added = record {
   history_is = ap (λ xs. xs ++ rest) f.history_is ∙ append_assoc f.front f.rest rest;
   others = All-append (λ (x : Entry). is_environment x.actor ≡ false) f.rest rest f.others added;
   joined = f.joined;
+  own = f.own;
 }
 
 -- a run fits with its hub as another actor goes on

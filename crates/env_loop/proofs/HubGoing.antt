@@ -1,5 +1,5 @@
 -- A run that is followed goes on at the hub; where it begins, and what it is at its end.
-use Rattle.std.proofs.Common.{◌≡◌, ◌∙◌, ℕ, false, List, [], length, ap, subst, sym, append-nil}
+use Rattle.std.proofs.Common.{◌≡◌, ◌∙◌, ℕ, false, List, [], length, refl, ap, subst, sym, append-nil, None}
 use Rattle.std.proofs.lemmas.List.Elements.{All-nil}
 use Rattle.napi_types.specs.declared.duties.DueInfo.{DueInfo}
 use Rattle.napi_types.specs.declared.entry.Entry.{Entry}
@@ -15,7 +15,7 @@ use Rattle.shared_hub.specs.KeptHubs.{IsLedHub}
 use Rattle.shared_hub.specs.declared.naming.Numbers.{Numbers}
 use Rattle.env_loop.specs.FollowedRuns.{IsRecordedRun, IsFollowed, taken_in, HasNumbers, GoesOnAt}
 use Rattle.env_loop.specs.RecordedRuns.{Run, opened_run}
-use Rattle.env_loop.specs.Recording.{AddonStates, IsOf}
+use Rattle.env_loop.specs.Recording.{AddonStates, IsOf, IsBehindOwn}
 use Rattle.env_loop.specs.OpenedAndGone.{OpenedRunsAreFollowed, GoneRunsHaveEnded}
 use Rattle.env_loop.proofs.FollowedRuns.{others-taken-in}
 use Rattle.env_loop.proofs.Recordings.{opened-recorded, gone_change-ended}
@@ -36,24 +36,33 @@ replays-in n s before k numbers =
     let W : ℕ → Type 0 = λ w. HubReplays n.limits.history (new_hub n.threads w) 0 before.history in
     subst L (sym numbers.limit) (subst T (sym numbers.threads) (subst W (sym numbers.workers) k.led.replays))
 
--- a run that is recorded over the whole history is followed
+-- a run that is recorded over the whole history is followed, where the environment made the last entry unless an end is owed
 pub followed-whole : (s : Setting) (run : Run) (history : List Entry) (all : AddonStates) (firsts : List (List DueInfo)) → IsRecordedRun s run history all firsts
+    → (run.ending ≡ None → IsBehindOwn run.core history)
     → IsFollowed s run history all firsts
-followed-whole s run history all firsts r = record {
+followed-whole s run history all firsts r own = record {
   front = history;
   rest = [];
   history_is = sym (append-nil history);
   others = All-nil (λ (x : Entry). is_environment x.actor ≡ false);
   joined = r;
+  own = own;
 }
+
+-- it is so behind a turn at the hub
+pub record IsRecordedAtHub (s : Setting) (run : Run) (history : List Entry) (all : AddonStates) (firsts : List (List DueInfo)) : Type 0 where
+  pub joined : IsRecordedRun s run history all firsts
+  pub own : run.ending ≡ None → IsBehindOwn run.core history
 
 -- so a run that is followed goes on at the hub, where it does over the whole history
 pub goes-at-hub : (n : Numbers) (plans : List Plan) (old new : Run) (before after : HubSeen) (all now : AddonStates) → IsLedHub n before
     → ((s : Setting) (firsts : List (List DueInfo)) → HasNumbers s n → IsOf s plans old.core → IsRecordedRun s (taken_in before.history old) before.history all firsts
-    → IsRecordedRun s new after.history now firsts)
+    → IsRecordedAtHub s new after.history now firsts)
     → GoesOnAt n plans old before.history all new after.history now
 goes-at-hub n plans old new before after all now k turn = λ s firsts numbers of f.
-    followed-whole s new after.history now firsts (turn s firsts numbers of (others-taken-in s old before.history all firsts (replays-in n s before k numbers) f))
+    let r : IsRecordedAtHub s new after.history now firsts =
+    turn s firsts numbers of (others-taken-in s old before.history all firsts (replays-in n s before k numbers) f) in
+    followed-whole s new after.history now firsts r.joined r.own
 
 -- WHERE IT BEGINS
 pub opened-followed : OpenedRunsAreFollowed
@@ -61,7 +70,7 @@ opened-followed s core all is blank =
     let P : Core → Type 0 = λ c. IsFollowed s (opened_run c) [] all all.seen in
     subst P (sym is)
     (followed-whole s (opened_run (opened_core (length s.plans) s.texts s.limits.journal)) [] all all.seen
-    (record { recorded = opened-recorded s all blank; owed = record { call = tt; end = tt } }))
+    (record { recorded = opened-recorded s all blank; owed = record { call = tt; end = tt } }) (λ none. refl))
 
 -- ITS END
 pub gone-ended : GoneRunsHaveEnded

@@ -6,6 +6,7 @@ use Rattle.napi_types.specs.runs.Setting.{Setting, EndsBy, opening_of}
 use Rattle.napi_types.specs.all_runs.Order.{HooksFall, FinalsRise}
 use Rattle.napi_types.proofs.all_runs.ItemOrders.{items-in-order}
 use Rattle.napi_types.proofs.all_runs.Keeping.{kept-run}
+use Rattle.napi_types.proofs.all_runs.NamedWorks.{cancels-told}
 use Rattle.napi_types.proofs.all_runs.OncePlaces.{each-once, starts-told}
 use Rattle.napi_types.proofs.all_runs.Onces.{tickets-counted}
 use Rattle.napi_types.proofs.all_runs.Orders.{order-holds}
@@ -22,4 +23,5 @@ keeps-promises s asks xs ended =
       once = each-once s asks xs ended;
       items = λ f. items-in-order s asks xs f ended.run;
       completed = λ n. starts-told s asks xs n ended;
+      cancels = cancels-told s asks xs ended;
     }

@@ -10,7 +10,7 @@ use Rattle.napi_types.specs.hub.HubSteps.{hub_along}
 use Rattle.napi_types.specs.runs.Setting.{opening_of}
 use Rattle.shared_hub.specs.HubStates.{HubSeen}
 use Rattle.env_teardown.specs.TeardownSteps.{Shows}
-use Rattle.env_loop.specs.Recording.{AddonStates, Continues}
+use Rattle.env_loop.specs.Recording.{AddonStates, RecordsOwn, Continues}
 use Rattle.env_loop.specs.RecordedRuns.{Run, hub_begun, FitsHub}
 use Rattle.env_loop.specs.FollowedRuns.{RunGoesOn}
 
@@ -18,20 +18,24 @@ use Rattle.env_loop.specs.FollowedRuns.{RunGoesOn}
 pub if_some-none : {A : Type 0} (P : A → Type 0) {o : Option A} → o ≡ None → IfSome o P
 if_some-none {A} P {o} none = let Q : Option A → Type 0 = λ x. IfSome x P in subst Q (sym none) tt
 
--- a turn goes on over each history, where nothing is owed after it
-pub local-goes : (plans : List Plan) (old new : Run) (all now : AddonStates) → Continues plans old.core all new.core now → new.core.awaited ≡ None
-    → new.ending ≡ None
+-- a turn goes on over each history, where nothing is owed before it and after it
+pub local-goes : (plans : List Plan) (old new : Run) (all now : AddonStates) → Continues plans old.core all new.core now → old.ending ≡ None
+    → new.core.awaited ≡ None → new.ending ≡ None
     → (history : List Entry) → RunGoesOn plans old history all new history now
-local-goes plans old new all now turn idle unended history = λ s firsts of f. record {
-  front = f.front;
-  rest = f.rest;
-  history_is = f.history_is;
-  others = f.others;
-  joined = record {
-    recorded = turn s (hub_along (opening_of s).hub f.front) f.front firsts of f.joined.recorded;
-    owed = record { call = if_some-none _ idle; end = if_some-none _ unended };
-  };
-}
+local-goes plans old new all now turn free idle unended history = λ s firsts of f.
+    let was : RecordsOwn s old.core (hub_along (opening_of s).hub f.front) f.front all firsts = record { recorded = f.joined.recorded; own = f.own free } in
+    let is : RecordsOwn s new.core (hub_along (opening_of s).hub f.front) f.front now firsts = turn s (hub_along (opening_of s).hub f.front) f.front firsts of was in
+    record {
+      front = f.front;
+      rest = f.rest;
+      history_is = f.history_is;
+      others = f.others;
+      joined = record {
+        recorded = is.recorded;
+        owed = record { call = if_some-none _ idle; end = if_some-none _ unended };
+      };
+      own = λ none. is.own;
+    }
 
 -- THE HUB BESIDE IT
 -- a hub shows a phase where it is at the stage of that phase

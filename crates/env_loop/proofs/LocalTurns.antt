@@ -105,6 +105,7 @@ ends-alone inside old new same runs alone =
 -- WHAT IT TELLS
 pub record TurnTells (t : LocalTurn) (ps : List Plan) (old : Run) (all : AddonStates) (new : Run) (now : AddonStates) : Type 0 where
   pub made : t ≡ turn.Made → OneMore old.core.journal new.core.journal
+  pub paid : t ≡ turn.Made → new.ending ≡ None
   pub stays : t ≢ turn.Made → owes_hub new ≡ false → new ≡ old
   pub owes : t ≢ turn.Made → OwesAlone old new
   pub free : owes_hub old ≡ false → owes_hub new ≡ true → old.ending ≡ None
@@ -125,6 +126,7 @@ tells-made ps old new all now m =
     let unowed : owes_hub new ≡ false = unowed-made new.core.awaited new.ending _ m.kept.awaited m.kept.ending in
     record {
       made = λ is. m.kept.one;
+      paid = λ is. m.kept.ending;
       stays = λ un. absurd (un refl);
       owes = λ un. absurd (un refl);
       free = λ before owes. let no : false ≡ true = sym unowed ∙ owes in cc;
@@ -142,6 +144,7 @@ module _ (t : LocalTurn) (ps : List Plan) (old new : Run) (all now : AddonStates
   tells-owing : OwesMore ps old all new now → TurnTells t ps old all new now
   tells-owing o = record {
     made = λ is. absurd (unmade is);
+    paid = λ is. absurd (unmade is);
     stays = λ un unowed. let no : true ≡ false = sym o.owes ∙ unowed in cc;
     owes = λ un. ap (λ (c : Core). record new { core = c }) o.core ∙ ap (λ (d : Option DueInfo). record new { core = record old.core { awaited = new.core.awaited }; begun = d }) o.begun;
     free = λ before owes. o.free;
@@ -160,6 +163,7 @@ module _ (t : LocalTurn) (ps : List Plan) (old new : Run) (all now : AddonStates
       let F : HubSeen → Run → Type 0 = λ h r. FitsHub r h in
       record {
         made = λ is. absurd (unmade is);
+        paid = λ is. absurd (unmade is);
         stays = λ un unowed. s.run;
         owes = λ un. subst (OwesAlone old) (sym s.run) refl;
         free = λ before owes. let no : false ≡ true = sym before ∙ ap owes_hub (sym s.run) ∙ owes in cc;

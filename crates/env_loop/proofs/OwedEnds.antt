@@ -44,13 +44,13 @@ use Rattle.env_loop.specs.declared.run.FrameEnd.{FrameEnd}
 use Rattle.env_loop.specs.declared.run.FrameEnd.TheVariants as end
 use Rattle.env_loop.specs.FollowedRuns.{Asks, MayEndSo, IsRecordedRun, taken_in, HasNumbers}
 use Rattle.env_loop.specs.HubTurns.{IsHubTurn}
-use Rattle.env_loop.specs.Recording.{AddonStates, machine_of, HasSeen, IsOf, IsRecorded}
+use Rattle.env_loop.specs.Recording.{AddonStates, machine_of, HasSeen, IsOf, IsRecorded, RecordsOwn}
 use Rattle.env_loop.specs.RecordedRuns.{Run, IsSoundEnvironment, IsRunning, cut_at, owes_hub, FitsHub}
 use Rattle.env_loop.specs.SharedEntries.{shared_step}
 use Rattle.env_loop.specs.Turns.{OnlyInnermostChanges, delivery_told, hub_event}
 use Rattle.env_loop.proofs.FrameTurns.{HasTopFrame, stands-so, sound-ended}
 use Rattle.env_loop.proofs.SharedReplies.{taken-step}
-use Rattle.env_loop.proofs.HubGoing.{hub-is, goes-at-hub}
+use Rattle.env_loop.proofs.HubGoing.{hub-is, IsRecordedAtHub, goes-at-hub}
 use Rattle.env_loop.proofs.LocalGoing.{if_some-none}
 use Rattle.env_loop.proofs.RegisterTurns.{asks-of-run}
 use Rattle.env_loop.proofs.SeenLists.{seen-same}
@@ -129,7 +129,7 @@ module _ (s : Setting) (plans : List Plan) (core : Core) (hub : Hub) (history : 
       → ((o : Out) → frame_step (machine_of s.limits core hub history) a o cut
       ≡ end_step (machine_of s.limits core hub history) (end_change v cut core.env) may)
       → Asks s all.registers core.env.frames a → IsHubNext hub (host_entry host.End (end_out cut core.env.pending))
-      → IsRecorded s (record core { env = (outermost_end_change cut core.env).after; position = length history + 1 })
+      → RecordsOwn s (record core { env = (outermost_end_change cut core.env).after; position = length history + 1 })
       (hub_step hub (host_entry host.End (end_out cut core.env.pending))).after
       (history ++ one (host_entry host.End (end_out cut core.env.pending))) all firsts
   asked-end a v cut may is ends asks next =
@@ -145,7 +145,7 @@ module _ (s : Setting) (plans : List Plan) (core : Core) (hub : Hub) (history : 
 
   end-recorded : (how : FrameEnd) → MayEndSo s all.registers (machine_of s.limits core hub history) how
       → IsHubNext hub (host_entry host.End (end_out (cut_at how) core.env.pending))
-      → IsRecorded s (record core { env = (outermost_end_change (cut_at how) core.env).after; position = length history + 1 })
+      → RecordsOwn s (record core { env = (outermost_end_change (cut_at how) core.env).after; position = length history + 1 })
       (hub_step hub (host_entry host.End (end_out (cut_at how) core.env.pending))).after
       (history ++ one (host_entry host.End (end_out (cut_at how) core.env.pending))) all firsts
   end-recorded end.Leaves may next = asked-end (ask.Leave may.0) may.0 None (may_ask core.env) may.2 (λ o. refl) may.1 next
@@ -167,7 +167,7 @@ ended-run : (s : Setting) (n : Numbers) (plans : List Plan) (old : Run) (how : F
     → IsLedHub n before → HasNumbers s n → IsOf s plans old.core → IsSoundEnvironment old.core.env → IsHubFrame old.core.env.frames → old.core.awaited ≡ None
     → old.ending ≡ Some how
     → AddsEntry before (end_entry how old.core.env) after → IsRecordedRun s (taken_in before.history old) before.history all firsts
-    → IsRecordedRun s (ended_run old how (length after.history)) after.history all firsts
+    → IsRecordedAtHub s (ended_run old how (length after.history)) after.history all firsts
 ended-run s n plans old how before after all firsts led numbers of sound f idle owed adds joined =
     let x : Entry = end_entry how old.core.env in
     let h : Hub = hub_along (opening_of s).hub before.history in
@@ -177,15 +177,13 @@ ended-run s n plans old how before after all firsts led numbers of sound f idle 
     subst (λ o. IfSome o (MayEndSo s all.registers (machine_of s.limits core h before.history))) owed joined.owed.end in
     let recorded = end-recorded s plans core h before.history all firsts (record { count = of.count; first = of.first }) sound f joined.recorded how may
     (subst (λ (g : Hub). IsHubNext g x) same adds.next) in
-    let P : ℕ → Hub → Type 0 = λ k g. IsRecorded s (ended_run old how k).core g (before.history ++ one x) all firsts in
-    let Q : List Entry → Type 0 = λ ks. IsRecorded s (ended_run old how (length ks)).core (hub_along (opening_of s).hub ks) ks all firsts in
-    record {
-      recorded =
-          subst Q (sym adds.history)
-          (subst (λ (k : ℕ). P k (hub_along (opening_of s).hub (before.history ++ one x))) (sym (length-append before.history (one x)))
-          (subst (λ (g : Hub). P (length before.history + 1) g) (sym (along-more (opening_of s).hub before.history x)) recorded));
-      owed = record { call = if_some-none _ idle; end = tt };
-    }
+    let P : ℕ → Hub → Type 0 = λ k g. RecordsOwn s (ended_run old how k).core g (before.history ++ one x) all firsts in
+    let Q : List Entry → Type 0 = λ ks. RecordsOwn s (ended_run old how (length ks)).core (hub_along (opening_of s).hub ks) ks all firsts in
+    let whole : Q after.history =
+    subst Q (sym adds.history)
+    (subst (λ (k : ℕ). P k (hub_along (opening_of s).hub (before.history ++ one x))) (sym (length-append before.history (one x)))
+    (subst (λ (g : Hub). P (length before.history + 1) g) (sym (along-more (opening_of s).hub before.history x)) recorded)) in
+    record { joined = record { recorded = whole.recorded; owed = record { call = if_some-none _ idle; end = tt } }; own = λ none. whole.own }
 
 -- the run keeps running
 ended-running : (run : Run) (how : FrameEnd) (position : ℕ) → IsSoundEnvironment run.core.env → IsHubFrame run.core.env.frames → run.core.awaited ≡ None

@@ -2,9 +2,11 @@
 use Rattle.std.proofs.Common.{◌≡◌, ℕ, ◌+◌, ◌<◌, true, IsTrue, List, [], ◌∷◌, ◌++◌, length, refl, ap, subst, sym, ◌∙◌, arith, nat_lt, length-append, Some, None}
 use Rattle.std.proofs.lemmas.List.{length-map, get_or-map}
 use Rattle.napi_types.specs.declared.call.Ask.{Ask}
+use Rattle.napi_types.specs.declared.entry.Actor.{Actor}
 use Rattle.napi_types.specs.declared.entry.Actor.TheVariants as actor
 use Rattle.napi_types.specs.declared.duties.DueInfo.{DueInfo}
 use Rattle.napi_types.specs.declared.entry.Entry.{Entry}
+use Rattle.napi_types.specs.declared.entry.Local.{Local}
 use Rattle.napi_types.specs.declared.entry.Phase.TheVariants as phase
 use Rattle.napi_types.specs.declared.call.Ask.TheVariants as ask
 use Rattle.std.specs.Option.{option_to_list}
@@ -15,6 +17,7 @@ use Rattle.napi_types.specs.scripts.Registers.{blank_registers}
 use Rattle.napi_types.specs.environment.Changes.{Change, gone_change, init_change}
 use Rattle.napi_types.specs.hub.Hub.{Hub}
 use Rattle.napi_types.specs.runs.Begins.{begun_info, begun_along}
+use Rattle.napi_types.specs.runs.InPlace.{is_behind_own, stands_in_place, last_actor, StandInPlace}
 use Rattle.napi_types.specs.runs.Machine.{Machine}
 use Rattle.napi_types.specs.runs.Parting.{sides_along}
 use Rattle.napi_types.specs.runs.Plan.{after_event, after_entry, frames_ask, asked, registers_after}
@@ -22,9 +25,10 @@ use Rattle.napi_types.specs.runs.Run.{after, IsNext}
 use Rattle.napi_types.specs.runs.Setting.{Setting, EndsBy, opening_of, RunsBy, final_of, final_registers, planned_asks}
 use Rattle.napi_types.specs.runs.Step.{Step, step, locally}
 use Rattle.napi_types.proofs.plain.Weaves.{weave-local, sides-local, rises-append}
+use Rattle.napi_types.proofs.runs.InPlace.{own-placed, last-more, placed-more}
 use Rattle.napi_types.proofs.runs.Runs.{run-more, final-more, asked-more, registers-more, sides-more, begun-more}
 use Rattle.env_core.specs.Core.{Core, after_change, opened_core}
-use Rattle.env_loop.specs.Recording.{AddonStates, machine_of, AgreesWhereTold, AgreesWith, HasSeen, IsRecorded, IsEnded}
+use Rattle.env_loop.specs.Recording.{AddonStates, machine_of, AgreesWhereTold, AgreesWith, HasSeen, IsRecorded, RecordsOwn, IsEnded}
 use Rattle.env_loop.proofs.KeptPromises.{keeps-promises}
 use Rattle.env_loop.proofs.SeenLists.{seen-same, seen-more}
 
@@ -35,15 +39,18 @@ pub record Grown (s : Setting) (asks : List Ask) (xs : List Entry) (after : Mach
   pub registers_are : final_registers s asks xs ≡ registers
   pub sides_are : sides_along (opening_of s) asks xs ≡ sides
   pub begun_are : begun_along (opening_of s) asks xs ≡ begun
+  pub placed : StandInPlace (opening_of s) None asks xs
 
 pub grow : (s : Setting) (bs : List Ask) (xs : List Entry) (m : Machine) (rss : Registers) (a : Ask) (x : Entry) (st : Step)
     → RunsBy s bs xs → final_of s bs xs ≡ m → final_registers s bs xs ≡ rss
     → step m a x ≡ st → x ≡ st.entry → IsTrue st.may → a ≡ asked s.plans rss m a x.actor
+    → StandInPlace (opening_of s) None bs xs → IsTrue (stands_in_place st.side (last_actor None xs) a x.reply.out)
     → Grown s (bs ++ a ∷ []) (xs ++ x ∷ []) st.after (registers_after s.plans rss m a x) (sides_along (opening_of s) bs xs ++ st.side ∷ [])
     (begun_along (opening_of s) bs xs ++ option_to_list (begun_info m x))
-grow s bs xs m rss a x st r f g next entry may here =
+grow s bs xs m rss a x st r f g next entry may here placed at =
     let P : Machine → Type 0 = λ n. IsNext n a x in
     let Q : Step → Type 0 = λ t. (x ≡ t.entry) × IsTrue t.may in
+    let S : Step → Type 0 = λ t. IsTrue (stands_in_place t.side (last_actor None xs) a x.reply.out) in
     let is_next : IsNext (final_of s bs xs) a x = subst P (sym f) (subst Q (sym next) (entry, may)) in
     record {
       run = record {
@@ -67,32 +74,40 @@ grow s bs xs m rss a x st r f g next entry may here =
       begun_are =
           begun-more (opening_of s) bs xs a x r.steps
           ∙ ap (λ n. begun_along (opening_of s) bs xs ++ option_to_list (begun_info n x)) f;
+      placed = placed-more (opening_of s) None bs xs a x r.steps placed (subst (λ (n : Machine). S (step n a x)) (sym f) (subst S (sym next) at));
     }
+
+-- an entry of the environment at the end of the weave
+pub last-own : (journal : List Local) (history xs : List Entry) (x : Entry) → weave journal history ≡ xs ++ x ∷ [] → x.actor ≡ actor.Env
+    → IsTrue (is_behind_own (last_actor None (weave journal history)))
+last-own journal history xs x woven who =
+    ap (λ ys. is_behind_own (last_actor None ys)) woven ∙ ap is_behind_own (last-more None xs x) ∙ ap (λ (w : Actor). is_behind_own (Some w)) who
 
 -- a local event goes into the journal
 pub local-grown : (s : Setting) (core : Core) (hub : Hub) (history : List Entry) (all : AddonStates) (firsts : List (List DueInfo)) (r : IsRecorded s core hub history all firsts)
     (a : Ask) (c : Change) (own : Registers) (after_all : AddonStates)
     → step (machine_of s.limits core hub history) a c.entry ≡ locally (machine_of s.limits core hub history) c true
+    → IsTrue (stands_in_place Journal (last_actor None (weave core.journal history)) a c.entry.reply.out)
     → c.entry.actor ≡ actor.Env
     → a ≡ frames_ask s.plans r.own core.env.frames a
     → after_event s.plans r.own (machine_of s.limits core hub history) a c.entry.reply c.entry.what ≡ own
     → length own ≡ length s.plans
     → AgreesWith s.plans after_all.registers own
     → HasSeen all.seen (option_to_list (begun_info (machine_of s.limits core hub history) c.entry)) after_all.seen
-    → IsRecorded s (after_change c core) hub history after_all firsts
-local-grown s core hub history all firsts r a c own after_all next who here kept count agrees seen =
+    → RecordsOwn s (after_change c core) hub history after_all firsts
+local-grown s core hub history all firsts r a c own after_all next at who here kept count agrees seen =
     let m : Machine = machine_of s.limits core hub history in
     let xs : List Entry = weave core.journal history in
     let g : Grown s (r.asks ++ a ∷ []) (xs ++ c.entry ∷ []) (locally m c true).after (registers_after s.plans r.own m a c.entry) (sides_along (opening_of s) r.asks xs ++ Journal ∷ [])
     (begun_along (opening_of s) r.asks xs ++ option_to_list (begun_info m c.entry)) =
-    grow s r.asks xs m r.own a c.entry (locally m c true) r.run r.final r.registers next refl refl (here ∙ ap (asked s.plans r.own m a) (sym who)) in
+    grow s r.asks xs m r.own a c.entry (locally m c true) r.run r.final r.registers next refl refl (here ∙ ap (asked s.plans r.own m a) (sym who)) r.placed at in
     let woven : weave (core.journal ++ record { at = core.position; entry = c.entry } ∷ []) history ≡ xs ++ c.entry ∷ [] =
     ap (λ n. weave (core.journal ++ record { at = n; entry = c.entry } ∷ []) history) r.position ∙ weave-local core.journal history c.entry in
     let longer : length core.journal + 1 ≡ length (core.journal ++ record { at = core.position; entry = c.entry } ∷ []) =
     sym (length-append core.journal (record { at = core.position; entry = c.entry } ∷ [])) in
     let R : List Entry → Type 0 = λ ys. RunsBy s (r.asks ++ a ∷ []) ys in
     let B : List DueInfo → Type 0 = λ l. HasSeen firsts l after_all.seen in
-    record {
+    let recorded : IsRecorded s (after_change c core) hub history after_all firsts = record {
       asks = r.asks ++ a ∷ [];
       own = own;
       run = subst R (sym woven) g.run;
@@ -111,14 +126,32 @@ local-grown s core hub history all firsts r a c own after_all next who here kept
       parted =
           ap (λ ys. sides_along (opening_of s) (r.asks ++ a ∷ []) ys) woven ∙ g.sides_are ∙ ap (λ l. l ++ Journal ∷ []) r.parted
           ∙ sym (ap (λ n. sides (core.journal ++ record { at = n; entry = c.entry } ∷ []) history) r.position ∙ sides-local core.journal history c.entry);
-    }
+      placed = subst (λ ys. StandInPlace (opening_of s) None (r.asks ++ a ∷ []) ys) (sym woven) g.placed;
+    } in
+    record { recorded = recorded; own = last-own (core.journal ++ record { at = core.position; entry = c.entry } ∷ []) history xs c.entry woven who }
+
+-- so does one right behind the environment's last entry
+pub own-grown : (s : Setting) (core : Core) (hub : Hub) (history : List Entry) (all : AddonStates) (firsts : List (List DueInfo)) (r : RecordsOwn s core hub history all firsts)
+    (a : Ask) (c : Change) (own : Registers) (after_all : AddonStates)
+    → step (machine_of s.limits core hub history) a c.entry ≡ locally (machine_of s.limits core hub history) c true
+    → c.entry.actor ≡ actor.Env
+    → a ≡ frames_ask s.plans r.recorded.own core.env.frames a
+    → after_event s.plans r.recorded.own (machine_of s.limits core hub history) a c.entry.reply c.entry.what ≡ own
+    → length own ≡ length s.plans
+    → AgreesWith s.plans after_all.registers own
+    → HasSeen all.seen (option_to_list (begun_info (machine_of s.limits core hub history) c.entry)) after_all.seen
+    → RecordsOwn s (after_change c core) hub history after_all firsts
+own-grown s core hub history all firsts r a c own after_all next =
+    local-grown s core hub history all firsts r.recorded a c own after_all next
+    (own-placed Journal (last_actor None (weave core.journal history)) a c.entry.reply.out r.own)
 
 -- the environment is gone
-pub gone_change-grown : (s : Setting) (core : Core) (hub : Hub) (history : List Entry) (all : AddonStates) (firsts : List (List DueInfo)) → IsRecorded s core hub history all firsts
+pub gone_change-grown : (s : Setting) (core : Core) (hub : Hub) (history : List Entry) (all : AddonStates) (firsts : List (List DueInfo)) → RecordsOwn s core hub history all firsts
     → core.env.frames ≡ [] → core.env.phase ≡ phase.Finals → lowest_due core.env.book ≡ None
-    → IsRecorded s (after_change (gone_change core.env) core) hub history all firsts
+    → RecordsOwn s (after_change (gone_change core.env) core) hub history all firsts
 gone_change-grown s core hub history all firsts r alone here none =
-    local-grown s core hub history all firsts r (ask.Leave None) (gone_change core.env) r.own all (rw (alone, here, none) refl) refl (rw alone refl) refl r.count r.agrees
+    let k : IsRecorded s core hub history all firsts = r.recorded in
+    own-grown s core hub history all firsts r (ask.Leave None) (gone_change core.env) k.own all (rw (alone, here, none) refl) refl (rw alone refl) refl k.count k.agrees
     (seen-same all.seen all.seen refl)
 
 -- THE INIT FRAMES
@@ -144,14 +177,17 @@ opened-recorded s all blank = record {
   position = refl;
   rises = (omega arith, omega arith);
   parted = refl;
+  placed = (refl, tt);
 }
 
 -- the next addon's init frame begins
-pub init-grown : (s : Setting) (core : Core) (hub : Hub) (history : List Entry) (all : AddonStates) (firsts : List (List DueInfo)) → IsRecorded s core hub history all firsts
+pub init-grown : (s : Setting) (core : Core) (hub : Hub) (history : List Entry) (all : AddonStates) (firsts : List (List DueInfo)) → RecordsOwn s core hub history all firsts
     → core.env.frames ≡ [] → core.env.phase ≡ phase.Init → core.env.opened ≡ true → nat_lt core.env.inits core.env.addons ≡ true
-    → IsRecorded s (after_change (init_change core.env.inits core.env) core) hub history all firsts
+    → RecordsOwn s (after_change (init_change core.env.inits core.env) core) hub history all firsts
 init-grown s core hub history all firsts r alone here opened more =
-    local-grown s core hub history all firsts r (ask.Leave None) (init_change core.env.inits core.env) r.own all (rw (alone, here, opened, more) refl) refl (rw alone refl) refl r.count r.agrees
+    let k : IsRecorded s core hub history all firsts = r.recorded in
+    own-grown s core hub history all firsts r (ask.Leave None) (init_change core.env.inits core.env) k.own all (rw (alone, here, opened, more) refl) refl (rw alone refl) refl
+    k.count k.agrees
     (seen-same all.seen all.seen refl)
 
 -- THE END
@@ -166,6 +202,7 @@ gone_change-ended s core hub history all firsts r here = record {
   history_length = ap (λ (m : Machine). m.history_length) r.final;
   rises = r.rises;
   parted = r.parted;
+  placed = r.placed;
   agrees = subst (λ (own : Registers). AgreesWith s.plans all.registers own) (sym r.registers) r.agrees;
   seen = r.seen;
 }

@@ -41,7 +41,7 @@ own-ask : (p : Plan) (f : Frame) (mine own : List ℕ) (a : Ask) → AgreesWhere
 own-ask None f mine own a agrees = refl
 own-ask (Some p) f mine own a agrees = ap (λ rs. plan_ask p rs f.entry f.asks) agrees
 
-own-asks : (s : Setting) (all own : Registers) (fs : List Frame) (a : Ask) → All (λ f. f.addon < length s.plans) fs → AgreesWith s.plans all own
+pub own-asks : (s : Setting) (all own : Registers) (fs : List Frame) (a : Ask) → All (λ f. f.addon < length s.plans) fs → AgreesWith s.plans all own
     → Asks s all fs a → Asks s own fs a
 own-asks s all own [] a there agrees asked = asked
 own-asks s all own (f ∷ fs) a there agrees asked =

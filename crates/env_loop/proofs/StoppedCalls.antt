@@ -1,5 +1,5 @@
 -- The hub stops the call that is awaited: its frame is to be cut.
-use Rattle.std.proofs.Common.{◌≡◌, ◌<◌, ◌+◌, ◌&&◌, ◌||◌, not, ◌⊎◌, inl, inr, ℕ, nat_lt, min, Bool, true, false, IsTrue, List, length, refl, ap, subst, sym, ◌∙◌, arith, Option, Some, Err, IfSome}
+use Rattle.std.proofs.Common.{◌≡◌, ◌<◌, ◌+◌, ◌&&◌, ◌||◌, not, ◌⊎◌, inl, inr, ℕ, nat_lt, min, Bool, true, false, IsTrue, List, length, refl, ap, subst, sym, ◌∙◌, arith, Option, Some, None, Err, IfSome}
 use Rattle.std.specs.declared.result.Result.{Result}
 use Rattle.napi_types.specs.declared.call.Ask.TheVariants as ask
 use Rattle.napi_types.specs.declared.call.Call.{Call}
@@ -31,11 +31,11 @@ use Rattle.shared_hub.specs.HubStates.{HubSeen, hub_room}
 use Rattle.shared_hub.specs.KeptHubs.{IsLedHub}
 use Rattle.shared_hub.specs.SharedTries.{given_by, GrowsAccepted, MayFindNoMemory}
 use Rattle.env_loop.specs.declared.run.FrameEnd.TheVariants as end
-use Rattle.env_loop.specs.FollowedRuns.{Asks, IsRecordedRun, taken_in, HasNumbers}
+use Rattle.env_loop.specs.FollowedRuns.{Asks, StoppedAtHub, IsRecordedRun, taken_in, HasNumbers}
 use Rattle.env_loop.specs.HubTurns.{IsCutTurn, StopsAs}
 use Rattle.env_loop.specs.Recording.{AddonStates, machine_of, why_stopped}
 use Rattle.env_loop.specs.RecordedRuns.{Run, IsAwaited, IsRunning, FitsHub}
-use Rattle.env_loop.proofs.HubGoing.{hub-is, goes-at-hub}
+use Rattle.env_loop.proofs.HubGoing.{hub-is, IsRecordedAtHub, goes-at-hub}
 use Rattle.env_loop.proofs.TurnSteps.{two_may}
 use Rattle.env_loop.proofs.AwaitedCalls.{awaited-calls, settled, awaited-stands}
 
@@ -74,12 +74,18 @@ stopped-may m h c why.Memory may shared stops =
     (ap (λ b. b || not (is_full (room_of m c.call) c.call)) shared)
 stopped-may m h c why.Asks may shared stops = absurd stops
 
+-- the call stopped at the hub
+stopped-there : (q : Room) (h : Hub) (c : SharedCall) (w : Why) → is_shared c.call ≡ true → StopsIn q h c w → StoppedAtHub (ask.Do c.call) w
+stopped-there q h c why.Full shared stops = ap (λ b. b && true) shared
+stopped-there q h c why.Memory shared stops = ap (λ b. b && true) shared
+stopped-there q h c why.Asks shared stops = absurd stops
+
 -- the run owes the cut
 stopped-run : (s : Setting) (n : Numbers) (old : Run) (c : SharedCall) (w : Why) (before : HubSeen) (all : AddonStates) (firsts : List (List DueInfo))
     → IsLedHub n before → HasNumbers s n
     → IsAwaited old.core.env c → old.core.awaited ≡ Some c → StopsIn (hub_room n before) before.hub c w
     → IsRecordedRun s (taken_in before.history old) before.history all firsts
-    → IsRecordedRun s
+    → IsRecordedAtHub s
     (record { core = after_no_answer (length before.history) old.core; begun = old.begun; ending = Some (end.Cut w) }) before.history all firsts
 stopped-run s n old c w before all firsts led numbers stands awaited stops joined =
     let h : Hub = hub_along (opening_of s).hub before.history in
@@ -90,15 +96,19 @@ stopped-run s n old c w before all firsts led numbers stands awaited stops joine
     subst (λ (k : ℕ). StopsIn (history_room h (length before.history) k) before.hub c w) (sym numbers.limit)
     (subst (λ (g : Hub). StopsIn (history_room g (length before.history) n.limits.history) before.hub c w) (sym (hub-is n s before led numbers)) stops) in
     record {
-      recorded = settled s (record old.core { position = length before.history }) h before.history all firsts joined.recorded;
-      owed = record {
-        call = tt;
-        end = (
-          ask.Do c.call,
-          asks,
-          stopped-may (machine_of s.limits core h before.history) before.hub c w (awaited-calls s all.registers old.core.env c stands asks) stands.shared here,
-        );
+      joined = record {
+        recorded = settled s (record old.core { position = length before.history }) h before.history all firsts joined.recorded;
+        owed = record {
+          call = tt;
+          end = (
+            ask.Do c.call,
+            asks,
+            stopped-may (machine_of s.limits core h before.history) before.hub c w (awaited-calls s all.registers old.core.env c stands asks) stands.shared here,
+            λ local. stopped-there (history_room h (length before.history) s.limits.history) before.hub c w stands.shared here,
+          );
+        };
       };
+      own = λ none. (let no : Some (end.Cut w) ≡ None = none in cc);
     }
 
 -- it stops for one of two reasons

@@ -1,5 +1,5 @@
 -- What a thread does next, by its script and by the hub.
-use Rattle.std.proofs.Common.{◌≡◌, ◌∙◌, ◌⊎◌, inl, inr, ◌<◌, ◌≤◌, ℕ, zero, suc, ◌+◌, true, false, not, cond, ◌&&◌, nat_lt, min, List, [], ◌∷◌, length, drop, get_or, slice_get, IsTrue, refl, ap, sym, subst, arith, Option, Some, None, is_none}
+use Rattle.std.proofs.Common.{◌≡◌, ◌∙◌, ◌⊎◌, inl, inr, ◌<◌, ◌≤◌, ℕ, zero, suc, ◌+◌, true, false, not, Bool, cond, ◌&&◌, nat_lt, min, List, [], ◌∷◌, length, drop, get_or, slice_get, IsTrue, refl, ap, sym, subst, arith, Option, Some, None, is_none}
 use Rattle.std.specs.List.{All, cons_option}
 use Rattle.std.proofs.lemmas.Bool.Decides.{nat_tests}
 use Rattle.std.proofs.lemmas.Bool.{or_left, or_right}
@@ -182,12 +182,16 @@ stops-so r h who g c later s w (inr is) full memory cut_full cut_memory =
     (ap (λ v. out.Cut v) (cut_memory is ∙ sym (ap (λ b. cond b why.Full why.Memory) (memory is).fits)), or_right (is_full r c) _ (wants r h who g c (memory is)))
 
 -- A CALL THAT WAITS
-pub waits-here : (h : Hub) (t : ThreadSeen) (c : Call) (later : List Call) → t.over ≡ false → drop t.made (thread_calls t.operations) ≡ c ∷ later
-    → is_thread_call c ≡ true → hub_answer h (actor.Thread t.number) nothing_given c 0 ≡ None → ThreadBlocked h t
-waits-here h t c later here next kind none =
-    inr (subst (λ b. NextWaits h t.number (cond b None (Some (drop t.made (thread_calls t.operations))))) (sym here)
-    (subst (λ cs. NextWaits h t.number (Some cs)) (sym next)
-    (ap (λ b. b && is_none (hub_answer h (actor.Thread t.number) nothing_given c 0)) kind ∙ ap is_none none)))
+pub waits-here : (r : Room) (h : Hub) (t : ThreadSeen) (c : Call) (later : List Call) → t.over ≡ false → drop t.made (thread_calls t.operations) ≡ c ∷ later
+    → is_thread_call c ≡ true → (is_full r c ≡ true → ⊥) → hub_answer h (actor.Thread t.number) nothing_given c 0 ≡ None → ThreadBlocked r h t
+waits-here r h t c later here next kind room none =
+    inr (subst (λ b. NextWaits r h t.number (cond b None (Some (drop t.made (thread_calls t.operations))))) (sym here)
+    (subst (λ cs. NextWaits r h t.number (Some cs)) (sym next)
+    (not-true (is_full r c) room, ap (λ b. b && is_none (hub_answer h (actor.Thread t.number) nothing_given c 0)) kind ∙ ap is_none none)))
+  where
+    not-true : (b : Bool) → (b ≡ true → ⊥) → b ≡ false
+    not-true true never = absurd (never refl)
+    not-true false never = refl
 
 -- WHY IT WAS STOPPED
 -- where no call was left it was stopped at none, ..

@@ -34,12 +34,12 @@ use Rattle.env_core.specs.Core.{Core, after_change}
 use Rattle.env_core.specs.CoreSteps.{BeginsTicket}
 use Rattle.env_loop.specs.declared.run.FrameEnd.{FrameEnd}
 use Rattle.env_loop.specs.declared.turn.NextEvent.TheVariants as next
-use Rattle.env_loop.specs.Recording.{AddonStates, HasSeen, machine_of, IsRecorded, Continues}
+use Rattle.env_loop.specs.Recording.{AddonStates, HasSeen, machine_of, IsRecorded, RecordsOwn, Continues}
 use Rattle.env_loop.specs.RecordedRuns.{Run, IsSoundEnvironment, Holds, IsRunning, hub_begun}
 use Rattle.env_loop.specs.Turns.{begins_next, IsNextEvent, IsTurn}
 use Rattle.env_loop.proofs.LocalGoing.{local-goes}
 use Rattle.env_loop.proofs.MadeTurns.{made-turn, running-idle}
-use Rattle.env_loop.proofs.Recordings.{local-grown}
+use Rattle.env_loop.proofs.Recordings.{own-grown}
 use Rattle.env_loop.proofs.RegisterTurns.{Kept, begun-touched, others-given, given-others, given-kept}
 use Rattle.env_loop.proofs.SeenLists.{begins-chosen, seen-begun}
 use Rattle.env_loop.proofs.Turns.{IsIdleRun}
@@ -110,16 +110,17 @@ ticket-next m n r hooked alone is there =
     ap (env_step m (ask.Leave None) (ticket_change n r m.env).entry.reply.out) alone ∙ ap (λ o. chosen m (option_or o (hub_choice m.hub))) is ∙ ap (ticket_step m n) there
     ∙ ap (locally m (ticket_change n r m.env)) (next-may m.env n r hooked (next-ticket-is m.env n is).next there)
 
-ticket-grown : (s : Setting) (core : Core) (hub : Hub) (history : List Entry) (all : AddonStates) (firsts : List (List DueInfo)) (rec : IsRecorded s core hub history all firsts)
+ticket-grown : (s : Setting) (core : Core) (hub : Hub) (history : List Entry) (all : AddonStates) (firsts : List (List DueInfo)) (own : RecordsOwn s core hub history all firsts)
     (now : AddonStates) (n : ℕ) (r : Registration)
     → IsHooked core.env → core.env.frames ≡ [] → local_choice core.env ≡ Some (Tickets n) → registration_at core.env.book n ≡ Some r
-    → Kept s.plans now.registers (with_addon_gifts rec.own r.addon (due_info n r).gifts) → HasSeen all.seen (due_info n r ∷ []) now.seen
-    → IsRecorded s (after_change (ticket_change n r core.env) core) hub history now firsts
-ticket-grown s core hub history all firsts rec now n r hooked alone is there kept seen =
+    → Kept s.plans now.registers (with_addon_gifts own.recorded.own r.addon (due_info n r).gifts) → HasSeen all.seen (due_info n r ∷ []) now.seen
+    → RecordsOwn s (after_change (ticket_change n r core.env) core) hub history now firsts
+ticket-grown s core hub history all firsts own now n r hooked alone is there kept seen =
     let m : Machine = machine_of s.limits core hub history in
     let told : duty_info m (Some (due_info n r).duty) ≡ Some (due_info n r) = ap (option_map (due_info n)) there in
     let P : Option DueInfo → Type 0 = λ d. HasSeen all.seen (option_to_list d) now.seen in
-    local-grown s core hub history all firsts rec (ask.Leave None) (ticket_change n r core.env) (with_addon_gifts rec.own r.addon (due_info n r).gifts) now
+    let rec : IsRecorded s core hub history all firsts = own.recorded in
+    own-grown s core hub history all firsts own (ask.Leave None) (ticket_change n r core.env) (with_addon_gifts rec.own r.addon (due_info n r).gifts) now
     (ticket-next m n r hooked alone is there) refl (rw alone refl) (ap (with_begun_gifts rec.own core.env.heap (ask.Leave None)) told)
     kept.count kept.agrees (subst P (sym told) seen)
 
@@ -185,11 +186,12 @@ ticket-turn ps all now old new mid due idle event b enough as_many given seen ma
     (subst P (sym told) saw)
     (local-goes ps old new all now
     (subst C (sym is)
-    (λ s hub history firsts of rec.
+    (λ s hub history firsts of records.
+    let rec : IsRecorded s core hub history all firsts = records.recorded in
     let below : r.addon < length s.plans = omega (arith, of.count, own) in
-    ticket-grown s core hub history all firsts rec now n r idle.sound.hooked idle.alone chosen_is b.registered
+    ticket-grown s core hub history all firsts records now n r idle.sound.hooked idle.alone chosen_is b.registered
     (given-kept s.plans all.registers rec.own now.registers r.addon d.gifts rec.count rec.agrees below (omega (arith, own, enough)) given_it) (subst T b.told saw)))
-    (ap (λ (c : Core). c.awaited) is ∙ idle.awaited) unended)
+    idle.ended (ap (λ (c : Core). c.awaited) is ∙ idle.awaited) unended)
 
 -- what a run keeps
 pub ticket-running : (core mid : Core) (begun after : Option DueInfo) (ending : Option FrameEnd) (due : DueInfo) → IsIdleRun core begun ending

@@ -144,7 +144,7 @@ module _ (ps : List Plan) (old : Run) (all : AddonStates) (idle : IsIdleRun old.
       made-turn ps old new all all change is idle.awaited unended (ap (λ (r : Run). hub_begun r.begun) made) addons stage refl
       (none-touched old.core.env.frames change.after.frames all.registers idle.alone plain)
       (seen-stays old.core.env all.seen all.seen (begins-chosen old.core.env o idle.alone chosen ∙ silent) refl)
-      (local-goes ps old new all all (subst C (sym is) goes) (ap (λ (c : Core). c.awaited) is ∙ idle.awaited) unended)
+      (local-goes ps old new all all (subst C (sym is) goes) idle.ended (ap (λ (c : Core). c.awaited) is ∙ idle.awaited) unended)
 
   -- the next init frame begins
   pub init-turn : (new : Run) (i : ℕ) → local_choice old.core.env ≡ Some (Inits i)

@@ -69,14 +69,14 @@ pub record SameThread (old new : ThreadSeen) : Type 0 where
   pub number : new.number ≡ old.number
   pub operations : new.operations ≡ old.operations
 
--- its next call waits at the hub
-abbrev pub NextWaits : Hub → ℕ → Option (List Call) → Type 0
-NextWaits h t (Some (c ∷ later)) = waits_at h t c ≡ true
-NextWaits h t _ = ⊥
+-- its next call waits at the hub: the history has room for it, and the hub does not answer it yet
+abbrev pub NextWaits : Room → Hub → ℕ → Option (List Call) → Type 0
+NextWaits r h t (Some (c ∷ later)) = (is_full r c ≡ false) × (waits_at h t c ≡ true)
+NextWaits r h t _ = ⊥
 
 -- it waits: for `go`, or at its next call
-abbrev pub ThreadBlocked : Hub → ThreadSeen → Type 0
-ThreadBlocked h t = (is_gone_on h.stage ≡ false) ⊎ NextWaits h t.number (calls_left t)
+abbrev pub ThreadBlocked : Room → Hub → ThreadSeen → Type 0
+ThreadBlocked r h t = (is_gone_on h.stage ≡ false) ⊎ NextWaits r h t.number (calls_left t)
 
 -- a thread that ends with calls left was stopped at the next one: the history has no room for it, or the hub, which would accept it, may find no memory for it
 abbrev pub StoppedAt : Room → Hub → ℕ → Option (List Call) → Type 0
@@ -123,6 +123,11 @@ pub record IsWorkerOf (n : Numbers) (s : HubSeen) (w : WorkerSeen) : Type 0 wher
 abbrev pub IsHandsReady : HeldWork → Type 0
 IsHandsReady (Started s) = ⊥
 IsHandsReady _ = Unit {0}
+
+-- no work that it holds is executed yet
+abbrev pub IsUnexecuted : HeldWork → Type 0
+IsUnexecuted (Executed r) = ⊥
+IsUnexecuted _ = Unit {0}
 
 -- it holds no work
 abbrev pub IsHandsFree : HeldWork → Type 0

@@ -3,11 +3,10 @@ use Rattle.std.specs.Prelude.{◌≡◌, ◌<◌, true, Bool, List, ◌++◌, ma
 use Rattle.std.specs.List.{range_with_len}
 use Rattle.napi_types.specs.declared.entry.Actor.{Actor}
 use Rattle.napi_types.specs.declared.entry.Actor.TheVariants as actor
-use Rattle.napi_types.specs.hub.Hub.{Hub}
 use Rattle.napi_types.specs.hub.Waits.{worker_waits}
 use Rattle.shared_hub.specs.HubStates.{HubSeen, hub_room}
 use Rattle.shared_hub.specs.declared.naming.Numbers.{Numbers}
-use Rattle.env_loop.specs.ActorRuns.{new_thread, new_worker, calls_left, IsThreadOf, SameThread, ThreadBlocked, StoppedAt, IsWorkerOf, IsHandsReady, IsHandsFree, held_executed}
+use Rattle.env_loop.specs.ActorRuns.{new_thread, new_worker, calls_left, IsThreadOf, SameThread, ThreadBlocked, StoppedAt, IsWorkerOf, IsHandsReady, IsUnexecuted, IsHandsFree, held_executed}
 use Rattle.env_loop.specs.declared.actor.ActorRun.{ActorRun}
 use Rattle.env_loop.specs.declared.actor.ActorRun.TheVariants as run
 use Rattle.env_loop.specs.declared.actor.fresh.FreshActor.{FreshActor}
@@ -43,6 +42,11 @@ module _ {J : Type 0} where
   IsReady (run.OfThread t) = Unit {0}
   IsReady (run.OfWorker w) = IsHandsReady w.held
 
+  -- it holds no work that is executed: what it has just started it executes later
+  abbrev pub HoldsNoneExecuted : ActorRun J → Type 0
+  HoldsNoneExecuted (run.OfThread t) = Unit {0}
+  HoldsNoneExecuted (run.OfWorker w) = IsUnexecuted w.held
+
   -- it holds no work
   abbrev pub HoldsNoWork : ActorRun J → Type 0
   HoldsNoWork (run.OfThread t) = Unit {0}
@@ -60,9 +64,9 @@ module _ {J : Type 0} where
   IsSameActor _ _ = ⊥
 
   -- it waits: a thread for `go` or at its next call, and a worker for a work or for the drain
-  abbrev pub IsBlocked : Hub → ActorRun J → Type 0
-  IsBlocked h (run.OfThread t) = ThreadBlocked h t
-  IsBlocked h (run.OfWorker w) = worker_waits h w.number ≡ true
+  abbrev pub IsBlocked : Numbers → HubSeen → ActorRun J → Type 0
+  IsBlocked n s (run.OfThread t) = ThreadBlocked (hub_room n s) s.hub t
+  IsBlocked n s (run.OfWorker w) = worker_waits s.hub w.number ≡ true
 
   -- a thread that has ended was stopped at the call that was left before, if one was; a worker makes no calls
   abbrev pub StoppedSo : Numbers → HubSeen → ActorRun J → Type 0

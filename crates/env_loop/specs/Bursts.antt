@@ -1,5 +1,5 @@
 -- What a burst of the environment's turns at the hub comes to, and where it goes on.
-use Rattle.std.specs.Prelude.{◌≡◌, ℕ, nat_lt, Bool, true, false, not, ◌&&◌, ◌||◌, cond, List, [], ◌∷◌, ◌++◌, length, drop, None}
+use Rattle.std.specs.Prelude.{◌≡◌, ℕ, zero, suc, nat_lt, Bool, true, false, not, ◌&&◌, ◌||◌, cond, List, [], ◌∷◌, ◌++◌, length, drop, None}
 use Rattle.std.specs.List.{All}
 use Rattle.napi_types.specs.declared.entry.Actor.{Actor}
 use Rattle.napi_types.specs.declared.entry.Actor.TheVariants as actor
@@ -81,3 +81,23 @@ pub record IsBurst (n : Numbers) (plans : List Plan) (made : ℕ) (old : Run) (b
   pub fits : FitsHub new after
   pub others : drop old.core.env.addons now.registers ≡ drop old.core.env.addons all.registers
   pub goes : GoesOnAt n plans old before.history all new after.history now
+
+-- WHERE IT STOPS
+-- the environment's run, the hub beside it, and what is seen of the addons
+pub record RunAtHub : Type 0 where
+  pub run : Run
+  pub hub : HubSeen
+  pub addons : AddonStates
+
+abbrev pub BurstBetween : Numbers → List Plan → ℕ → RunAtHub → RunAtHub → Type 0
+BurstBetween n plans made old new = IsBurst n plans made old.run old.hub old.addons new.run new.hub new.addons
+
+-- turns of which so many made an entry, each of these where the next event was the hub's, whatever an addon might ask
+abbrev pub TurnsOn : Numbers → List Plan → ℕ → RunAtHub → RunAtHub → Type 0
+TurnsOn n plans zero old new = BurstBetween n plans 0 old new
+TurnsOn n plans (suc k) old new = (at : RunAtHub) × TurnsOn n plans k old at × (comes_to_hub at.run ≡ true) × BurstBetween n plans 1 at new
+
+-- a burst goes on after an entry only where the next event is the hub's: where an addon is to be asked it has stopped
+abbrev pub StopsAtAsks : Numbers → List Plan → ℕ → RunAtHub → RunAtHub → Type 0
+StopsAtAsks n plans zero old new = Unit {0}
+StopsAtAsks n plans (suc k) old new = (first : RunAtHub) × BurstBetween n plans 1 old first × TurnsOn n plans k first new

@@ -1,17 +1,20 @@
 -- A run that is recorded with what it owes, over the front of the history that the environment has seen, while others went on behind it.
-use Rattle.std.specs.Prelude.{◌≡◌, true, false, List, ◌++◌, length, Option, IfSome}
+use Rattle.std.specs.Prelude.{◌≡◌, ◌&&◌, true, false, List, ◌++◌, length, Option, None, IfSome, IsTrue}
 use Rattle.std.specs.List.{All}
 use Rattle.napi_types.specs.declared.call.Ask.{Ask}
 use Rattle.napi_types.specs.declared.call.Ask.TheVariants as ask
 use Rattle.napi_types.specs.declared.duties.DueInfo.{DueInfo}
 use Rattle.napi_types.specs.declared.entry.Entry.{Entry}
+use Rattle.napi_types.specs.declared.entry.Out.TheVariants as out
+use Rattle.napi_types.specs.declared.entry.Why.{Why}
 use Rattle.napi_types.specs.declared.ids.HandleId.{HandleId}
 use Rattle.napi_types.specs.plain.Entries.{is_environment}
-use Rattle.napi_types.specs.parts.Frames.{Frame}
+use Rattle.napi_types.specs.parts.Frames.{Frame, duty_of, is_hub_duty}
 use Rattle.napi_types.specs.scripts.Plans.{Plan, Registers}
 use Rattle.napi_types.specs.environment.Changes.{may_ask}
 use Rattle.napi_types.specs.hub.HubSteps.{hub_along}
 use Rattle.napi_types.specs.hub.Replays.{HubReplays}
+use Rattle.napi_types.specs.runs.InPlace.{asks_hub, is_stopped}
 use Rattle.napi_types.specs.runs.Machine.{Machine}
 use Rattle.napi_types.specs.runs.Plan.{frames_ask}
 use Rattle.napi_types.specs.runs.Setting.{Setting, opening_of}
@@ -20,7 +23,7 @@ use Rattle.shared_hub.specs.HubStates.{HubSeen, AddsEntry}
 use Rattle.shared_hub.specs.declared.naming.Numbers.{Numbers}
 use Rattle.env_loop.specs.declared.run.FrameEnd.{FrameEnd}
 use Rattle.env_loop.specs.declared.run.FrameEnd.TheVariants as end
-use Rattle.env_loop.specs.Recording.{AddonStates, machine_of, IsOf, IsRecorded}
+use Rattle.env_loop.specs.Recording.{AddonStates, machine_of, IsOf, IsRecorded, IsBehindOwn}
 use Rattle.env_loop.specs.RecordedRuns.{Run, FitsHub}
 
 -- WHAT IS OWED
@@ -28,10 +31,15 @@ use Rattle.env_loop.specs.RecordedRuns.{Run, FitsHub}
 abbrev pub Asks : Setting → Registers → List Frame → Ask → Type 0
 Asks s rss fs a = a ≡ frames_ask s.plans rss fs a
 
--- the innermost frame may end so on the machine: it leaves, or it may be cut at what it asks
+-- the call stopped at the hub, and its frame is to be cut so
+abbrev pub StoppedAtHub : Ask → Why → Type 0
+StoppedAtHub a w = IsTrue (asks_hub a && is_stopped (out.Cut w))
+
+-- the innermost frame may end so on the machine: it leaves, or it may be cut at what it asks. Where it is no frame of the hub's it was stopped there
 abbrev pub MayEndSo : Setting → Registers → Machine → FrameEnd → Type 0
 MayEndSo s rss m end.Leaves = (v : Option HandleId) × Asks s rss m.env.frames (ask.Leave v) × (may_ask m.env ≡ true)
-MayEndSo s rss m (end.Cut w) = (a : Ask) × Asks s rss m.env.frames a × (may_cut m a w ≡ true)
+MayEndSo s rss m (end.Cut w) =
+    (a : Ask) × Asks s rss m.env.frames a × (may_cut m a w ≡ true) × (is_hub_duty (duty_of m.env.frames) ≡ false → StoppedAtHub a w)
 
 -- the call that is awaited is what the innermost frame asks, and it may end as is owed
 pub record IsOwed (s : Setting) (rss : Registers) (m : Machine) (run : Run) : Type 0 where
@@ -44,13 +52,14 @@ pub record IsRecordedRun (s : Setting) (run : Run) (history : List Entry) (all :
   pub recorded : IsRecorded s run.core (hub_along (opening_of s).hub history) history all firsts
   pub owed : IsOwed s all.registers (machine_of s.limits run.core (hub_along (opening_of s).hub history) history) run
 
--- it is recorded over a front of the history, and behind it are others' entries alone
+-- it is recorded over a front of the history, and behind it are others' entries alone. The environment made the last entry of that front, unless an end is owed
 pub record IsFollowed (s : Setting) (run : Run) (history : List Entry) (all : AddonStates) (firsts : List (List DueInfo)) : Type 0 where
   pub front : List Entry
   pub rest : List Entry
   pub history_is : history ≡ front ++ rest
   pub others : All (λ x. is_environment x.actor ≡ false) rest
   pub joined : IsRecordedRun s run front all firsts
+  pub own : run.ending ≡ None → IsBehindOwn run.core front
 
 -- AS OTHERS GO ON
 -- the run as it has taken in this history

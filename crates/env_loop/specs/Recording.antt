@@ -1,5 +1,5 @@
 -- A run as it is recorded: the environment's core, the history, and what contracts see of the addons.
-use Rattle.std.specs.Prelude.{◌≡◌, ℕ, ◌<◌, List, ◌++◌, length, Some, None}
+use Rattle.std.specs.Prelude.{◌≡◌, ℕ, ◌<◌, List, ◌++◌, length, map, Some, None, IsTrue}
 use Rattle.napi_types.specs.declared.call.Ask.{Ask}
 use Rattle.napi_types.specs.declared.duties.DueInfo.{DueInfo}
 use Rattle.napi_types.specs.declared.entry.Duty.TheVariants as duty
@@ -14,9 +14,11 @@ use Rattle.napi_types.specs.plain.Weave.{weave, RisesBetween}
 use Rattle.napi_types.specs.scripts.Plans.{Plan, plan_of, Registers, registers_of}
 use Rattle.napi_types.specs.hub.Hub.{Hub}
 use Rattle.napi_types.specs.runs.Begins.{begun_along, of_addon}
+use Rattle.napi_types.specs.runs.InPlace.{is_behind_own, last_actor, StandInPlace}
 use Rattle.napi_types.specs.runs.Machine.{Machine}
 use Rattle.napi_types.specs.runs.Parting.{IsParted}
 use Rattle.napi_types.specs.runs.Setting.{Setting, RunsBy, EndsBy, opening_of, final_of, final_registers}
+use Rattle.napi_types.specs.all_runs.Cancels.{CancelsHold}
 use Rattle.napi_types.specs.all_runs.CollectionLaw.{KeepsReached}
 use Rattle.napi_types.specs.all_runs.Counts.{Once, TellsStarts}
 use Rattle.napi_types.specs.all_runs.ItemOrder.{CountItems}
@@ -28,6 +30,10 @@ use Rattle.env_core.specs.Core.{Core}
 pub record AddonStates : Type 0 where
   pub registers : Registers
   pub seen : List (List DueInfo)
+
+-- the same of a list of addons, of which these tell the registers and what was seen
+abbrev pub states_of : {A : Type 0} → (A → List ℕ) → (A → List DueInfo) → List A → AddonStates
+states_of registers seen addons = record { registers = map registers addons; seen = map seen addons }
 
 -- the machine that a core, a hub and a history are
 abbrev pub machine_of : Limits → Core → Hub → List Entry → Machine
@@ -53,7 +59,8 @@ abbrev pub HasSeen : List (List DueInfo) → List DueInfo → List (List DueInfo
 HasSeen firsts begun seen = (addon : ℕ) → seen_of seen addon ≡ seen_of firsts addon ++ of_addon addon begun
 
 -- the weave of the journal and the history is a run of the script, it came to this machine, the registers of its addons are the run's, and each addon has
--- seen, after what it saw first, what began in the run. `all` is what is seen of every addon that was handed in, and the script's addons are the first ones
+-- seen, after what it saw first, what began in the run. `all` is what is seen of every addon that was handed in, and the script's addons are the first ones.
+-- Each entry of the journal stands in its place
 pub record IsRecorded (s : Setting) (core : Core) (hub : Hub) (history : List Entry) (all : AddonStates) (firsts : List (List DueInfo)) : Type 0 where
   pub asks : List Ask
   pub own : Registers
@@ -67,6 +74,16 @@ pub record IsRecorded (s : Setting) (core : Core) (hub : Hub) (history : List En
   pub position : core.position ≡ length history
   pub rises : RisesBetween 0 (length history) core.journal
   pub parted : IsParted (opening_of s) asks core.journal history
+  pub placed : StandInPlace (opening_of s) None asks (weave core.journal history)
+
+-- the environment made the last entry of the run
+abbrev pub IsBehindOwn : Core → List Entry → Type 0
+IsBehindOwn core history = IsTrue (is_behind_own (last_actor None (weave core.journal history)))
+
+-- the run is recorded, and the environment made its last entry
+pub record RecordsOwn (s : Setting) (core : Core) (hub : Hub) (history : List Entry) (all : AddonStates) (firsts : List (List DueInfo)) : Type 0 where
+  pub recorded : IsRecorded s core hub history all firsts
+  pub own : IsBehindOwn core history
 
 -- what a run that came to its end has done with what its addons and threads made
 pub record KeepsPromises (s : Setting) (asks : List Ask) (trace : List Entry) : Type 0 where
@@ -84,9 +101,12 @@ pub record KeepsPromises (s : Setting) (asks : List Ask) (trace : List Entry) : 
   pub items : (f : ℕ) → CountItems f trace
   -- the completion of each work began as cancelled exactly where the work never started
   pub completed : (n : ℕ) → TellsStarts (duty.Work n) trace
+  -- each accepted cancel led to the completion, as cancelled, of the work that was last queued under its id, and that work never started
+  pub cancels : CancelsHold trace
 
 -- a run that came to its end, as it is left: the weave of the two lists is a run of the script to `gone`, which keeps what it promises. The journal stands in
--- the order of its places, each list has its own entries, the registers of the script's addons are the run's, and each addon has seen what began in the run
+-- the order of its places, each entry of it in its place, each list has its own entries, the registers of the script's addons are the run's, and each addon has seen
+-- what began in the run
 pub record IsEnded (s : Setting) (journal : List Local) (history : List Entry) (all : AddonStates) (firsts : List (List DueInfo)) : Type 0 where
   pub asks : List Ask
   pub ended : EndsBy s asks (weave journal history)
@@ -95,6 +115,7 @@ pub record IsEnded (s : Setting) (journal : List Local) (history : List Entry) (
   pub history_length : (final_of s asks (weave journal history)).history_length ≡ length history
   pub rises : RisesBetween 0 (length history) journal
   pub parted : IsParted (opening_of s) asks journal history
+  pub placed : StandInPlace (opening_of s) None asks (weave journal history)
   pub agrees : AgreesWith s.plans all.registers (final_registers s asks (weave journal history))
   pub seen : HasSeen firsts (begun_along (opening_of s) asks (weave journal history)) all.seen
 
@@ -108,9 +129,9 @@ pub record IsOf (s : Setting) (plans : List Plan) (core : Core) : Type 0 where
   pub count : length s.plans ≡ core.env.addons
   pub first : (addon : ℕ) → addon < length s.plans → plan_of s.plans addon ≡ plan_of plans addon
 
--- whatever script of these addons it is a run of, however far its hub is, and whatever they saw first, the recorded run goes on from one core and these addons to
--- another
+-- whatever script of these addons it is a run of, however far its hub is, and whatever they saw first, the recorded run, of which the environment made the last
+-- entry, goes on so from one core and these addons to another
 abbrev pub Continues : List Plan → Core → AddonStates → Core → AddonStates → Type 0
 Continues plans old all new now =
-    (s : Setting) (hub : Hub) (history : List Entry) (firsts : List (List DueInfo)) → IsOf s plans old → IsRecorded s old hub history all firsts
-    → IsRecorded s new hub history now firsts
+    (s : Setting) (hub : Hub) (history : List Entry) (firsts : List (List DueInfo)) → IsOf s plans old → RecordsOwn s old hub history all firsts
+    → RecordsOwn s new hub history now firsts

@@ -15,7 +15,7 @@ use Rattle.napi_types.specs.runs.Plan.{frames_ask, after_event}
 use Rattle.napi_types.specs.runs.Setting.{Setting}
 use Rattle.napi_types.specs.runs.Step.{Step, step}
 use Rattle.env_core.specs.Core.{Core}
-use Rattle.env_loop.specs.Recording.{AddonStates, machine_of, AgreesWith, HasSeen, IsRecorded}
+use Rattle.env_loop.specs.Recording.{AddonStates, machine_of, AgreesWith, HasSeen, IsRecorded, RecordsOwn}
 
 -- what the step of an entry of the environment is that goes into the history
 abbrev pub shared_step : Machine → Entry → Hub → Environment → Step
@@ -33,4 +33,4 @@ SharedEntriesAreRecorded = (s : Setting) (core : Core) (hub later : Hub) (histor
     → length own ≡ length s.plans
     → AgreesWith s.plans now.registers own
     → HasSeen all.seen (option_to_list (begun_info (machine_of s.limits core hub history) x)) now.seen
-    → IsRecorded s (record core { env = e; position = length history + 1 }) later (history ++ x ∷ []) now firsts
+    → RecordsOwn s (record core { env = e; position = length history + 1 }) later (history ++ x ∷ []) now firsts

@@ -2,7 +2,7 @@
 ghost use Rattle.std.specs.Prelude.{◌≡◌, ◌≢◌, ◌↔◌, ◌≤◌, length, true, IsTrue};
 ghost use Rattle.std.specs.List.{All};
 ghost use Rattle.env_loop.specs.ActorRuns.{IsOperationOfThread, new_thread, new_worker, AddsEntryOf};
-ghost use Rattle.env_loop.specs.ActorTurns.{actor_of, is_over, IsActorOf, IsReady, HoldsNoWork, with_work_executed, IsSameActor, IsFreshActor, fresh_run, IsBlocked, StoppedSo};
+ghost use Rattle.env_loop.specs.ActorTurns.{actor_of, is_over, IsActorOf, IsReady, HoldsNoneExecuted, HoldsNoWork, with_work_executed, IsSameActor, IsFreshActor, fresh_run, IsBlocked, StoppedSo};
 
 mod fresh;
 pub mod standing;
@@ -21,7 +21,7 @@ pub use worker::WorkerRun;
 pub enum ActorTurn {
     /// It made one entry of the history.
     Made,
-    /// It waits: a thread before `go` or at a full queue, a worker for a work or for the drain. Nothing changed.
+    /// It waits: a thread before `go`, or at a full queue where the history has room for its call; a worker for a work or for the drain. Nothing changed.
     Blocked,
     /// It has ended. Nothing changed.
     Ended,
@@ -95,10 +95,11 @@ impl<J: Job> ActorRun<J> {
         ensures stands { IsActorOf N.numbers hub.new self.new }
         ensures actor { IsSameActor self.old self.new }
         ensures made { result ≡ ActorTurn.Made → AddsEntryOf (actor_of self.old) hub.old hub.new }
-        ensures blocked { result ≡ ActorTurn.Blocked → IsBlocked hub.old.hub self.old }
+        ensures blocked { result ≡ ActorTurn.Blocked → IsBlocked N.numbers hub.old self.old }
         ensures same { result ≢ ActorTurn.Made → (hub.new ≡ hub.old) × (self.new ≡ self.old) }
         ensures ended { (result ≡ ActorTurn.Ended) ↔ IsTrue (is_over self.old) }
         ensures cut { is_over self.new ≡ true → StoppedSo N.numbers hub.old self.old }
+        ensures unexecuted { result ≡ ActorTurn.Made → HoldsNoneExecuted self.new }
     {
         match self {
             ActorRun::OfThread(thread) => thread.turn(hub),

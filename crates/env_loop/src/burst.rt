@@ -5,15 +5,16 @@ ghost use Rattle.napi_types.specs.declared.entry.Entry.{Entry};
 ghost use Rattle.napi_types.specs.plain.Room.{is_full};
 ghost use Rattle.napi_types.specs.scripts.Plans.{Plan};
 ghost use Rattle.napi_types.specs.runs.Choice.{local_choice};
+ghost use Rattle.addon_trait.specs.Addons.{TellSamePlans};
 ghost use Rattle.env_core.specs.Sharing.{after_no_answer};
 ghost use Rattle.env_core.specs.Standing.{machine_frame};
 ghost use Rattle.shared_hub.specs.HubStates.{HubSeen, hub_room};
 ghost use Rattle.shared_hub.specs.SharedTries.{given_by, MayFindNoMemory};
-ghost use Rattle.env_loop.specs.Recording.{AddonStates};
+ghost use Rattle.env_loop.specs.Recording.{AddonStates, states_of};
 ghost use Rattle.env_loop.specs.RecordedRuns.{owes_hub, FitsHub};
 ghost use Rattle.env_loop.specs.FollowedRuns.{RunGoesOn, GoesOnAt};
 ghost use Rattle.env_loop.specs.Turns.{event_turn, needs_hub, hub_event, IfCut, Awaits};
-ghost use Rattle.env_loop.specs.Bursts.{asks_no_more, silent_end, is_of_hub as is_for_hub, comes_to_hub, made_by, AddsEntriesOf, IsBurst, IsPaid};
+ghost use Rattle.env_loop.specs.Bursts.{asks_no_more, silent_end, is_of_hub as is_for_hub, comes_to_hub, made_by, AddsEntriesOf, IsBurst, IsPaid, TurnsOn, StopsAtAsks};
 
 use crate::run::{EnvRun, FrameEnd, HubTurn};
 use crate::turn::{NextEvent, is_of_hub, next_event};
@@ -64,14 +65,18 @@ impl EnvRun {
         requires needs { needs_hub self.old }
         requires fits { FitsHub self.old hub.old }
         requires enough { self.old.core.env.addons ≤ length addons.old.items }
-        ensures count { length addons.new.items ≡ length addons.old.items }
-        ensures plans { map (λ b. plan b) addons.new.items ≡ map (λ b. plan b) addons.old.items }
+        ensures plans { TellSamePlans (λ b. plan b) addons.old.items addons.new.items }
 
         // Each entry is one event of the environment's, and the history has grown by exactly so many.
         ensures few { result.made ≤ most }
         ensures made { AddsEntriesOf actor.Env result.made hub.old hub.new }
 
+        // It stops where an addon is to be asked: each entry after the first came where the next event was the hub's, whatever an addon might have asked.
         // Where it made fewer than it might, the next event is not the hub's, or its last turn made none. After the most it made its last turn made one.
+        ensures asks { let before = states_of (λ b. regs b) (λ b. seen b) addons.old.items in
+            let after = states_of (λ b. regs b) (λ b. seen b) addons.new.items in
+            StopsAtAsks N.numbers (map (λ b. plan b) addons.old.items) result.made
+            (record { run = self.old; hub = hub.old; addons = before }) (record { run = self.new; hub = hub.new; addons = after }) }
         ensures stops { result.made < most → (comes_to_hub self.new ≡ false) ⊎ (result.last ≢ HubTurn.Made) }
         ensures all { result.made ≡ most → result.last ≡ HubTurn.Made }
         ensures paid { result.last ≡ HubTurn.Made → (1 ≤ result.made) × IsPaid self.new }
@@ -90,8 +95,8 @@ impl EnvRun {
 
         // A run that was followed goes on, over the history as it is then. It fits with the hub, and the journal, the addons and the limit stay. The
         // addons that are no addons of the script keep their registers, and all keep them where no entry was made.
-        ensures goes { let before : AddonStates = record { registers = map (λ b. regs b) addons.old.items; seen = map (λ b. seen b) addons.old.items } in
-            let after : AddonStates = record { registers = map (λ b. regs b) addons.new.items; seen = map (λ b. seen b) addons.new.items } in
+        ensures goes { let before = states_of (λ b. regs b) (λ b. seen b) addons.old.items in
+            let after = states_of (λ b. regs b) (λ b. seen b) addons.new.items in
             GoesOnAt N.numbers (map (λ b. plan b) addons.old.items) self.old hub.old.history before self.new hub.new.history after }
         ensures fits { FitsHub self.new hub.new }
         ensures journal { self.new.core.journal ≡ self.old.core.journal }
@@ -125,11 +130,14 @@ impl EnvRun {
         requires paid { IsPaid self.old }
         requires fits { FitsHub self.old hub.old }
         requires enough { self.old.core.env.addons ≤ length addons.old.items }
-        ensures count { length addons.new.items ≡ length addons.old.items }
-        ensures plans { map (λ b. plan b) addons.new.items ≡ map (λ b. plan b) addons.old.items }
-        ensures burst { let before : AddonStates = record { registers = map (λ b. regs b) addons.old.items; seen = map (λ b. seen b) addons.old.items } in
-            let after : AddonStates = record { registers = map (λ b. regs b) addons.new.items; seen = map (λ b. seen b) addons.new.items } in
+        ensures plans { TellSamePlans (λ b. plan b) addons.old.items addons.new.items }
+        ensures burst { let before = states_of (λ b. regs b) (λ b. seen b) addons.old.items in
+            let after = states_of (λ b. regs b) (λ b. seen b) addons.new.items in
             IsBurst N.numbers (map (λ b. plan b) addons.old.items) result.made self.old hub.old before self.new hub.new after }
+        ensures on { let before = states_of (λ b. regs b) (λ b. seen b) addons.old.items in
+            let after = states_of (λ b. regs b) (λ b. seen b) addons.new.items in
+            TurnsOn N.numbers (map (λ b. plan b) addons.old.items) result.made
+            (record { run = self.old; hub = hub.old; addons = before }) (record { run = self.new; hub = hub.new; addons = after }) }
         ensures few { result.made ≤ most }
         ensures stops { result.made < most → (comes_to_hub self.new ≡ false) ⊎ (result.last ≢ HubTurn.Made) }
         ensures all { result.made ≡ most → result.last ≡ HubTurn.Made }
@@ -166,10 +174,9 @@ impl EnvRun {
         requires paid { IsPaid self.old }
         requires fits { FitsHub self.old hub.old }
         requires enough { self.old.core.env.addons ≤ length addons.old.items }
-        ensures count { length addons.new.items ≡ length addons.old.items }
-        ensures plans { map (λ b. plan b) addons.new.items ≡ map (λ b. plan b) addons.old.items }
-        ensures burst { let before : AddonStates = record { registers = map (λ b. regs b) addons.old.items; seen = map (λ b. seen b) addons.old.items } in
-            let after : AddonStates = record { registers = map (λ b. regs b) addons.new.items; seen = map (λ b. seen b) addons.new.items } in
+        ensures plans { TellSamePlans (λ b. plan b) addons.old.items addons.new.items }
+        ensures burst { let before = states_of (λ b. regs b) (λ b. seen b) addons.old.items in
+            let after = states_of (λ b. regs b) (λ b. seen b) addons.new.items in
             IsBurst N.numbers (map (λ b. plan b) addons.old.items) (made_by result) self.old hub.old before self.new hub.new after }
         ensures paid { result ≡ HubTurn.Made → IsPaid self.new }
         ensures uncut { IfCut result (λ _. ⊥) }

@@ -6,8 +6,9 @@ ghost use Rattle.napi_types.specs.parts.Frames.{duty_of, is_hub_duty};
 ghost use Rattle.napi_types.specs.scripts.Plans.{Plan};
 ghost use Rattle.napi_types.specs.runs.Choice.{local_choice};
 ghost use Rattle.napi_types.specs.runs.Loop.{EndsLoop};
+ghost use Rattle.addon_trait.specs.Addons.{TellSamePlans};
 ghost use Rattle.shared_hub.specs.KeptHubs.{IsLedHub};
-ghost use Rattle.env_loop.specs.Recording.{AddonStates};
+ghost use Rattle.env_loop.specs.Recording.{AddonStates, states_of};
 ghost use Rattle.env_loop.specs.RecordedRuns.{owes_hub, FitsHub};
 ghost use Rattle.env_loop.specs.HubTurns.{MatchHubTurn, IsHubTurn, DeliversAt};
 ghost use Rattle.env_loop.specs.Turns.{needs_hub};
@@ -31,10 +32,9 @@ impl EnvRun {
         requires needs { needs_hub self.old }
         requires fits { FitsHub self.old hub.old }
         requires enough { self.old.core.env.addons ≤ length addons.old.items }
-        ensures count { length addons.new.items ≡ length addons.old.items }
-        ensures plans { map (λ b. plan b) addons.new.items ≡ map (λ b. plan b) addons.old.items }
-        ensures turn { let before : AddonStates = record { registers = map (λ b. regs b) addons.old.items; seen = map (λ b. seen b) addons.old.items } in
-            let after : AddonStates = record { registers = map (λ b. regs b) addons.new.items; seen = map (λ b. seen b) addons.new.items } in
+        ensures plans { TellSamePlans (λ b. plan b) addons.old.items addons.new.items }
+        ensures turn { let before = states_of (λ b. regs b) (λ b. seen b) addons.old.items in
+            let after = states_of (λ b. regs b) (λ b. seen b) addons.new.items in
             MatchHubTurn N.numbers result (map (λ b. plan b) addons.old.items) self.old hub.old before self.new hub.new after }
     {
         hub.knows();
@@ -67,10 +67,9 @@ impl EnvRun {
         requires led { IsLedHub N.numbers hub.old }
         requires fits { FitsHub self.old hub.old }
         requires enough { self.old.core.env.addons ≤ length addons.old.items }
-        ensures count { length addons.new.items ≡ length addons.old.items }
-        ensures plans { map (λ b. plan b) addons.new.items ≡ map (λ b. plan b) addons.old.items }
-        ensures turn { let before : AddonStates = record { registers = map (λ b. regs b) addons.old.items; seen = map (λ b. seen b) addons.old.items } in
-            let after : AddonStates = record { registers = map (λ b. regs b) addons.new.items; seen = map (λ b. seen b) addons.new.items } in
+        ensures plans { TellSamePlans (λ b. plan b) addons.old.items addons.new.items }
+        ensures turn { let before = states_of (λ b. regs b) (λ b. seen b) addons.old.items in
+            let after = states_of (λ b. regs b) (λ b. seen b) addons.new.items in
             MatchHubTurn N.numbers result (map (λ b. plan b) addons.old.items) self.old hub.old before self.new hub.new after }
     {
         let Some(frame) = self.core.frame() else {
@@ -126,10 +125,9 @@ impl EnvRun {
         requires led { IsLedHub N.numbers hub.old }
         requires fits { FitsHub self.old hub.old }
         requires enough { self.old.core.env.addons ≤ length addons.old.items }
-        ensures count { length addons.new.items ≡ length addons.old.items }
-        ensures plans { map (λ b. plan b) addons.new.items ≡ map (λ b. plan b) addons.old.items }
-        ensures turn { let before : AddonStates = record { registers = map (λ b. regs b) addons.old.items; seen = map (λ b. seen b) addons.old.items } in
-            let after : AddonStates = record { registers = map (λ b. regs b) addons.new.items; seen = map (λ b. seen b) addons.new.items } in
+        ensures plans { TellSamePlans (λ b. plan b) addons.old.items addons.new.items }
+        ensures turn { let before = states_of (λ b. regs b) (λ b. seen b) addons.old.items in
+            let after = states_of (λ b. regs b) (λ b. seen b) addons.new.items in
             MatchHubTurn N.numbers result (map (λ b. plan b) addons.old.items) self.old hub.old before self.new hub.new after }
     {
         let exit = is_exit(&self.core);
@@ -169,10 +167,9 @@ impl EnvRun {
         requires led { IsLedHub N.numbers hub.old }
         requires fits { FitsHub self.old hub.old }
         requires enough { self.old.core.env.addons ≤ length addons.old.items }
-        ensures count { length addons.new.items ≡ length addons.old.items }
-        ensures plans { map (λ b. plan b) addons.new.items ≡ map (λ b. plan b) addons.old.items }
-        ensures turn { let before : AddonStates = record { registers = map (λ b. regs b) addons.old.items; seen = map (λ b. seen b) addons.old.items } in
-            let after : AddonStates = record { registers = map (λ b. regs b) addons.new.items; seen = map (λ b. seen b) addons.new.items } in
+        ensures plans { TellSamePlans (λ b. plan b) addons.old.items addons.new.items }
+        ensures turn { let before = states_of (λ b. regs b) (λ b. seen b) addons.old.items in
+            let after = states_of (λ b. regs b) (λ b. seen b) addons.new.items in
             MatchHubTurn N.numbers result (map (λ b. plan b) addons.old.items) self.old hub.old before self.new hub.new after }
     {
         match teardown_step(&mut self.core, hub) {
@@ -201,10 +198,9 @@ impl EnvRun {
         requires lasts { self.old.core.env.phase ≢ Phase.Gone }
         requires noted { self.old.core.position ≤ length hub.now.history }
         requires enough { self.old.core.env.addons ≤ length addons.old.items }
-        ensures count { length addons.new.items ≡ length addons.old.items }
-        ensures plans { map (λ b. plan b) addons.new.items ≡ map (λ b. plan b) addons.old.items }
-        ensures began { let before : AddonStates = record { registers = map (λ b. regs b) addons.old.items; seen = map (λ b. seen b) addons.old.items } in
-            let after : AddonStates = record { registers = map (λ b. regs b) addons.new.items; seen = map (λ b. seen b) addons.new.items } in
+        ensures plans { TellSamePlans (λ b. plan b) addons.old.items addons.new.items }
+        ensures began { let before = states_of (λ b. regs b) (λ b. seen b) addons.old.items in
+            let after = states_of (λ b. regs b) (λ b. seen b) addons.new.items in
             DeliversAt due (length hub.now.history) self.old before self.new after }
     {
         let addon = due.info().addon as usize;

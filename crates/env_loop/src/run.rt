@@ -4,11 +4,12 @@ ghost use Rattle.std.specs.Option.{option_to_list};
 ghost use Rattle.napi_types.specs.declared.entry.Actor.TheVariants as actor;
 ghost use Rattle.napi_types.specs.declared.entry.Entry.{Entry};
 ghost use Rattle.napi_types.specs.plain.Room.{is_full};
+ghost use Rattle.addon_trait.specs.Addons.{TellSamePlans};
 ghost use Rattle.env_core.specs.Sharing.{after_no_answer};
 ghost use Rattle.shared_hub.specs.HubStates.{HubSeen, hub_room};
 ghost use Rattle.shared_hub.specs.SharedTries.{given_by, MayFindNoMemory};
 ghost use Rattle.env_loop.specs.ActorRuns.{AddsEntryOf};
-ghost use Rattle.env_loop.specs.Recording.{AddonStates, HasSeen};
+ghost use Rattle.env_loop.specs.Recording.{HasSeen, states_of};
 ghost use Rattle.env_loop.specs.RecordedRuns.{IsOpened, opened_run, owes_hub, FitsHub, OneMore};
 ghost use Rattle.env_loop.specs.FollowedRuns.{RunGoesOn, GoesOnAt};
 ghost use Rattle.env_loop.specs.HubTurns.{SpentAtFinals};
@@ -78,8 +79,8 @@ impl EnvRun {
     /// more in the journal. `NeedsHub` is answered where the hub has to answer a call, to make the end of the frame of one of its duties or to make
     /// the next event, and again until it has made its turn. `Gone` is answered once the environment is gone.
     ///
-    /// An addon is asked once. While something is owed to the hub, nothing is asked and nothing changes. No turn reads what others have done
-    /// since the environment's last turn at the hub.
+    /// While something is owed to the hub nothing changes. No addon is asked then either, so each is asked once: a test shows that, and no clause.
+    /// No turn reads what others have done since the environment's last turn at the hub.
     ///
     /// In the loop, until exit is asked, and after `finals` the lowest ticket that is due begins its frame, where no frame stands; between the end
     /// of the loop and the drain it is that of the hook that was added last. Its addon has then seen what it tells. The ticket ends with its frame.
@@ -88,15 +89,15 @@ impl EnvRun {
     /// closing the scopes of the frame that ends.
     pub fn local_turn(&mut self, addons: &mut Vec<Box<dyn Addon>>) -> LocalTurn
         requires { self.old.core.env.addons ≤ length addons.old.items }
-        ensures count { length addons.new.items ≡ length addons.old.items }
-        ensures plans { map (λ b. plan b) addons.new.items ≡ map (λ b. plan b) addons.old.items }
+        ensures plans { TellSamePlans (λ b. plan b) addons.old.items addons.new.items }
 
         // What the turn comes to is told by the frames and the next event, and by what is owed after it.
         ensures turn { result ≡ turn_after self.new self.old.core.env }
 
-        // A turn that was made left exactly one entry in the journal, which had room for it.
+        // A turn that was made left exactly one entry in the journal, which had room for it, and no end is owed after it.
         ensures made { result ≡ LocalTurn.Made → OneMore self.old.core.journal self.new.core.journal }
         ensures room { result ≡ LocalTurn.Made → length self.old.core.journal < self.old.core.limit }
+        ensures paid { result ≡ LocalTurn.Made → self.new.ending ≡ None }
 
         // Another turn changed nothing, but that something may be owed that was not. Where something was owed it changed nothing at all, and nothing
         // comes to be owed where the end of a frame was.
@@ -107,13 +108,13 @@ impl EnvRun {
         ensures same { result ≢ LocalTurn.Made → map (λ b. regs b) addons.new.items ≡ map (λ b. regs b) addons.old.items }
         ensures unseen { result ≢ LocalTurn.Made → map (λ b. seen b) addons.new.items ≡ map (λ b. seen b) addons.old.items }
 
-        // Where the end of a frame was owed and the hub is not to make it, the frame ended so, and no addon was asked.
+        // Where the end of a frame was owed and the hub is not to make it, the frame ended so.
         ensures ends { IfSome self.old.ending (λ how. owes_hub self.old ≡ false → EndsSo how self.old.core self.new.core) }
 
         // A run that was followed goes on over the same history. It fits with each hub with which it fitted, and the addons that are no addons
         // of the script keep their registers.
-        ensures goes { let before : AddonStates = record { registers = map (λ b. regs b) addons.old.items; seen = map (λ b. seen b) addons.old.items } in
-            let after : AddonStates = record { registers = map (λ b. regs b) addons.new.items; seen = map (λ b. seen b) addons.new.items } in
+        ensures goes { let before = states_of (λ b. regs b) (λ b. seen b) addons.old.items in
+            let after = states_of (λ b. regs b) (λ b. seen b) addons.new.items in
             (history : List Entry) → RunGoesOn (map (λ b. plan b) addons.old.items) self.old history before self.new history after }
         ensures fits { (hub : HubSeen) → FitsHub self.old hub → FitsHub self.new hub }
         ensures others { let n = self.old.core.env.addons in
@@ -150,8 +151,7 @@ impl EnvRun {
         requires needs { needs_hub self.old }
         requires fits { FitsHub self.old hub.old }
         requires enough { self.old.core.env.addons ≤ length addons.old.items }
-        ensures count { length addons.new.items ≡ length addons.old.items }
-        ensures plans { map (λ b. plan b) addons.new.items ≡ map (λ b. plan b) addons.old.items }
+        ensures plans { TellSamePlans (λ b. plan b) addons.old.items addons.new.items }
 
         // A turn that was made left exactly one entry of the environment's in the history.
         ensures made { result ≡ HubTurn.Made → AddsEntryOf actor.Env hub.old hub.new }
@@ -174,8 +174,8 @@ impl EnvRun {
         ensures spent { SpentAtFinals hub.old.hub hub.new.hub }
 
         // A run that was followed goes on, over the history as it is then. It fits with the hub, and the journal, the addons and the limit stay.
-        ensures goes { let before : AddonStates = record { registers = map (λ b. regs b) addons.old.items; seen = map (λ b. seen b) addons.old.items } in
-            let after : AddonStates = record { registers = map (λ b. regs b) addons.new.items; seen = map (λ b. seen b) addons.new.items } in
+        ensures goes { let before = states_of (λ b. regs b) (λ b. seen b) addons.old.items in
+            let after = states_of (λ b. regs b) (λ b. seen b) addons.new.items in
             GoesOnAt N.numbers (map (λ b. plan b) addons.old.items) self.old hub.old.history before self.new hub.new.history after }
         ensures fits { FitsHub self.new hub.new }
         ensures journal { self.new.core.journal ≡ self.old.core.journal }
@@ -202,10 +202,11 @@ impl EnvRun {
         requires { self.core.env.frames ≡ [] }
     {
         let EnvRun {
-            core: _,
+            core,
             begun,
             ending: _,
         } = self;
+        let _journal = core.into_journal();
         none_stands(begun);
     }
 

@@ -6,9 +6,10 @@ ghost use Rattle.napi_types.specs.plain.Lists.{head, tail};
 ghost use Rattle.napi_types.specs.parts.Frames.{asks_made, duty_of, is_hub_duty, most_asks, at_last_ask};
 ghost use Rattle.napi_types.specs.environment.Ends.{end_change};
 ghost use Rattle.napi_types.specs.runs.Choice.{local_choice};
+ghost use Rattle.addon_trait.specs.Addons.{TellSamePlans};
 ghost use Rattle.env_core.specs.Core.{after_change};
 ghost use Rattle.env_core.specs.Standing.{machine_frame};
-ghost use Rattle.env_loop.specs.Recording.{AddonStates, why_stopped};
+ghost use Rattle.env_loop.specs.Recording.{why_stopped, states_of};
 ghost use Rattle.env_loop.specs.RecordedRuns.{IsSoundEnvironment, cut_at, hub_begun, owes_hub, OneMore, FitsHub};
 ghost use Rattle.env_loop.specs.Turns.{event_turn as turn_at_event, turn_after, begins_next, IsNextEvent, IsAskOf, IsTold, IsTurn, MatchTurn, EndsOrOwes, EndsSo};
 
@@ -99,8 +100,7 @@ fn is_answered_at_once(call: &Call) -> bool
 /// anything more.
 fn ask_of(addons: &mut Vec<Box<dyn Addon>>, frame: &StandingFrame) -> Ask
     requires { frame.now.addon < length addons.old.items }
-    ensures count { length addons.new.items ≡ length addons.old.items }
-    ensures plans { map (λ b. plan b) addons.new.items ≡ map (λ b. plan b) addons.old.items }
+    ensures plans { TellSamePlans (λ b. plan b) addons.old.items addons.new.items }
     ensures regs { map (λ b. regs b) addons.new.items ≡ map (λ b. regs b) addons.old.items }
     ensures seen { map (λ b. seen b) addons.new.items ≡ map (λ b. seen b) addons.old.items }
     ensures asked { IsAskOf (map (λ b. plan b) addons.old.items) (map (λ b. regs b) addons.old.items) (machine_frame frame.now) result }
@@ -115,12 +115,11 @@ impl EnvRun {
     /// One turn. See [`EnvRun::local_turn`].
     pub(crate) fn turn(&mut self, addons: &mut Vec<Box<dyn Addon>>) -> LocalTurn
         requires { self.old.core.env.addons ≤ length addons.old.items }
-        ensures count { length addons.new.items ≡ length addons.old.items }
-        ensures plans { map (λ b. plan b) addons.new.items ≡ map (λ b. plan b) addons.old.items }
+        ensures plans { TellSamePlans (λ b. plan b) addons.old.items addons.new.items }
         ensures turn { result ≡ turn_after self.new self.old.core.env }
         ensures room { result ≡ LocalTurn.Made → length self.old.core.journal < self.old.core.limit }
-        ensures goes { let before : AddonStates = record { registers = map (λ b. regs b) addons.old.items; seen = map (λ b. seen b) addons.old.items } in
-            let after : AddonStates = record { registers = map (λ b. regs b) addons.new.items; seen = map (λ b. seen b) addons.new.items } in
+        ensures goes { let before = states_of (λ b. regs b) (λ b. seen b) addons.old.items in
+            let after = states_of (λ b. regs b) (λ b. seen b) addons.new.items in
             MatchTurn result (map (λ b. plan b) addons.old.items) self.old before self.new after }
         ensures unbegun { result ≢ LocalTurn.Made → begins_next self.old.core.env ≡ None }
         ensures ends { IfSome self.old.ending (λ how. owes_hub self.old ≡ false → EndsSo how self.old.core self.new.core) }
@@ -157,12 +156,11 @@ impl EnvRun {
         requires unowed { owes_hub self.old ≡ false }
         requires enough { self.old.core.env.addons ≤ length addons.old.items }
         requires stands { head self.old.core.env.frames ≡ Some (machine_frame frame.now) }
-        ensures count { length addons.new.items ≡ length addons.old.items }
-        ensures plans { map (λ b. plan b) addons.new.items ≡ map (λ b. plan b) addons.old.items }
+        ensures plans { TellSamePlans (λ b. plan b) addons.old.items addons.new.items }
         ensures ends { IfSome self.old.ending (λ how. EndsSo how self.old.core self.new.core) }
         ensures turn { result ≡ turn_after self.new self.old.core.env }
-        ensures goes { let before : AddonStates = record { registers = map (λ b. regs b) addons.old.items; seen = map (λ b. seen b) addons.old.items } in
-            let after : AddonStates = record { registers = map (λ b. regs b) addons.new.items; seen = map (λ b. seen b) addons.new.items } in
+        ensures goes { let before = states_of (λ b. regs b) (λ b. seen b) addons.old.items in
+            let after = states_of (λ b. regs b) (λ b. seen b) addons.new.items in
             MatchTurn result (map (λ b. plan b) addons.old.items) self.old before self.new after }
     {
         if let Some(end) = self.ending {
@@ -182,11 +180,10 @@ impl EnvRun {
         requires enough { self.old.core.env.addons ≤ length addons.old.items }
         requires stands { head self.old.core.env.frames ≡ Some (machine_frame frame.now) }
         requires within { frame.now.asks < most_asks }
-        ensures count { length addons.new.items ≡ length addons.old.items }
-        ensures plans { map (λ b. plan b) addons.new.items ≡ map (λ b. plan b) addons.old.items }
+        ensures plans { TellSamePlans (λ b. plan b) addons.old.items addons.new.items }
         ensures turn { result ≡ turn_after self.new self.old.core.env }
-        ensures goes { let before : AddonStates = record { registers = map (λ b. regs b) addons.old.items; seen = map (λ b. seen b) addons.old.items } in
-            let after : AddonStates = record { registers = map (λ b. regs b) addons.new.items; seen = map (λ b. seen b) addons.new.items } in
+        ensures goes { let before = states_of (λ b. regs b) (λ b. seen b) addons.old.items in
+            let after = states_of (λ b. regs b) (λ b. seen b) addons.new.items in
             MatchTurn result (map (λ b. plan b) addons.old.items) self.old before self.new after }
     {
         match ask_of(addons, frame) {
@@ -241,8 +238,7 @@ impl EnvRun {
         requires duty { duty ≡ duty_of self.old.core.env.frames }
         requires enough { self.old.core.env.addons ≤ length addons.old.items }
         requires asks { end ≡ FrameEnd.Cut Why.Asks → asks_made self.old.core.env.frames ≡ most_asks }
-        ensures count { length addons.new.items ≡ length addons.old.items }
-        ensures plans { map (λ b. plan b) addons.new.items ≡ map (λ b. plan b) addons.old.items }
+        ensures plans { TellSamePlans (λ b. plan b) addons.old.items addons.new.items }
         ensures seen { map (λ b. seen b) addons.new.items ≡ map (λ b. seen b) addons.old.items }
         ensures turn { result ≡ turn_after self.new self.old.core.env }
         ensures ends { let before = map (λ b. regs b) addons.old.items in
@@ -274,8 +270,7 @@ impl EnvRun {
         requires local { is_hub_duty duty ≡ false }
         requires enough { self.old.core.env.addons ≤ length addons.old.items }
         requires asks { cut ≡ Some Why.Asks → asks_made self.old.core.env.frames ≡ most_asks }
-        ensures count { length addons.new.items ≡ length addons.old.items }
-        ensures plans { map (λ b. plan b) addons.new.items ≡ map (λ b. plan b) addons.old.items }
+        ensures plans { TellSamePlans (λ b. plan b) addons.old.items addons.new.items }
         ensures seen { map (λ b. seen b) addons.new.items ≡ map (λ b. seen b) addons.old.items }
         ensures ended { self.new.core ≡ after_change (end_change value cut self.old.core.env) self.old.core }
         ensures unended { self.new.ending ≡ None }
@@ -306,11 +301,10 @@ impl EnvRun {
         requires unowed { owes_hub self.old ≡ false }
         requires alone { self.old.core.env.frames ≡ [] }
         requires enough { self.old.core.env.addons ≤ length addons.old.items }
-        ensures count { length addons.new.items ≡ length addons.old.items }
-        ensures plans { map (λ b. plan b) addons.new.items ≡ map (λ b. plan b) addons.old.items }
+        ensures plans { TellSamePlans (λ b. plan b) addons.old.items addons.new.items }
         ensures turn { result ≡ turn_after self.new self.old.core.env }
-        ensures goes { let before : AddonStates = record { registers = map (λ b. regs b) addons.old.items; seen = map (λ b. seen b) addons.old.items } in
-            let after : AddonStates = record { registers = map (λ b. regs b) addons.new.items; seen = map (λ b. seen b) addons.new.items } in
+        ensures goes { let before = states_of (λ b. regs b) (λ b. seen b) addons.old.items in
+            let after = states_of (λ b. regs b) (λ b. seen b) addons.new.items in
             MatchTurn result (map (λ b. plan b) addons.old.items) self.old before self.new after }
         ensures unbegun { result ≢ LocalTurn.Made → begins_next self.old.core.env ≡ None }
     {
@@ -339,10 +333,9 @@ impl EnvRun {
         requires alone { self.old.core.env.frames ≡ [] }
         requires next { IsNextEvent NextEvent.Ticket (local_choice self.old.core.env) }
         requires enough { self.old.core.env.addons ≤ length addons.old.items }
-        ensures count { length addons.new.items ≡ length addons.old.items }
-        ensures plans { map (λ b. plan b) addons.new.items ≡ map (λ b. plan b) addons.old.items }
-        ensures made { let before : AddonStates = record { registers = map (λ b. regs b) addons.old.items; seen = map (λ b. seen b) addons.old.items } in
-            let after : AddonStates = record { registers = map (λ b. regs b) addons.new.items; seen = map (λ b. seen b) addons.new.items } in
+        ensures plans { TellSamePlans (λ b. plan b) addons.old.items addons.new.items }
+        ensures made { let before = states_of (λ b. regs b) (λ b. seen b) addons.old.items in
+            let after = states_of (λ b. regs b) (λ b. seen b) addons.new.items in
             IsTurn (map (λ b. plan b) addons.old.items) self.old before self.new after }
     {
         let Some(due) = self.core.next_local() else {

@@ -70,7 +70,7 @@ impl ThreadRun {
         ensures stands { IsThreadOf N.numbers hub.new self.new }
         ensures script { SameThread self.old self.new }
         ensures made { result ≡ ActorTurn.Made → AddsEntryOf (actor_of.Thread self.old.number) hub.old hub.new }
-        ensures blocked { result ≡ ActorTurn.Blocked → ThreadBlocked hub.old.hub self.old }
+        ensures blocked { result ≡ ActorTurn.Blocked → ThreadBlocked (hub_room N.numbers hub.old) hub.old.hub self.old }
         ensures same { result ≢ ActorTurn.Made → (hub.new ≡ hub.old) × (self.new ≡ self.old) }
         ensures ended { (result ≡ ActorTurn.Ended) ↔ IsTrue self.old.over }
         ensures cut { self.new.over ≡ true → StoppedAt (hub_room N.numbers hub.old) hub.old.hub self.old.number (calls_left self.old) }

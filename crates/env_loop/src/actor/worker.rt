@@ -2,7 +2,7 @@
 ghost use Rattle.std.specs.Prelude.{◌≡◌, ◌≢◌, ◌↔◌, false, true, Some, None, IsTrue, IfSome};
 ghost use Rattle.napi_types.specs.declared.entry.Actor.TheVariants as actor_of;
 ghost use Rattle.napi_types.specs.hub.Waits.{worker_waits};
-ghost use Rattle.env_loop.specs.ActorRuns.{WorkerSeen, NoWork, Executed, new_worker, IsWorkerOf, IsHandsReady, IsHandsFree, held_executed, AddsEntryOf};
+ghost use Rattle.env_loop.specs.ActorRuns.{WorkerSeen, NoWork, Executed, new_worker, IsWorkerOf, IsHandsReady, IsUnexecuted, IsHandsFree, held_executed, AddsEntryOf};
 ghost use Rattle.env_loop.specs.HeldWorks.{held_in};
 
 use super::{ActorTurn, NextStep};
@@ -82,6 +82,7 @@ impl<J: Job> WorkerRun<J> {
         ensures blocked { result ≡ ActorTurn.Blocked → worker_waits hub.old.hub self.old.number ≡ true }
         ensures same { result ≢ ActorTurn.Made → (hub.new ≡ hub.old) × (self.new ≡ self.old) }
         ensures ended { (result ≡ ActorTurn.Ended) ↔ IsTrue self.old.over }
+        ensures unexecuted { result ≡ ActorTurn.Made → IsUnexecuted self.new.held }
     {
         if self.over {
             return ActorTurn::Ended;
@@ -108,6 +109,7 @@ impl<J: Job> WorkerRun<J> {
         ensures blocked { result ≡ ActorTurn.Blocked → worker_waits hub.old.hub self.old.number ≡ true }
         ensures same { result ≢ ActorTurn.Made → (hub.new ≡ hub.old) × (self.new ≡ self.old) }
         ensures ended { result ≢ ActorTurn.Ended }
+        ensures unexecuted { result ≡ ActorTurn.Made → IsUnexecuted self.new.held }
     {
         hub.knows();
         match hub.start(self.number) {

@@ -25,7 +25,7 @@ returns-in-Leave-clause-goes g c =
     ends-turn-at _ _ _ c.args.self.now c.args.self.now _ _ _ _ c.in-Leave.value end.Leaves c.end_turn.result
     (left-may c.in-Leave.value (record { sound = c.requires.sound; top = c.requires.stands; asked = c.in-Leave.ensures.asked }) c.requires.idle
     c.requires.unended c.requires.within)
-    (duty-told _ _ c.requires.stands) refl c.ask_of.ensures.plans c.ask_of.ensures.regs c.end_turn.ensures.ends
+    (duty-told _ _ c.requires.stands) refl c.ask_of.ensures.plans.same c.ask_of.ensures.regs c.end_turn.ensures.ends
     (c.end_turn.ensures.seen ∙ c.ask_of.ensures.seen) c.end_turn.ensures.turn
 
 -- IT IS REPLIED TO AT ONCE
@@ -44,7 +44,7 @@ returns-in-Some-clause-goes g c =
     let idle = ap (λ (r : Run). r.core.awaited) c.self.view_is ∙ c.requires.idle in
     let unended = ap (λ (r : Run). r.ending) c.self.view_is ∙ c.requires.unended in
     let local = c.is_answered_at_once.ensures.local c.if-is_answered_at_once.true in
-    let told = told-from _ _ _ _ _ (machine_frame c.args.frame.now ∷ []) c.in-Some.reply.now c.ask_of.ensures.plans c.ask_of.ensures.regs
+    let told = told-from _ _ _ _ _ (machine_frame c.args.frame.now ∷ []) c.in-Some.reply.now c.ask_of.ensures.plans.same c.ask_of.ensures.regs
     (c.note_at.ensures.others, c.note_at.ensures.kept) in
     rw (← c.self.view_is) (replied-turn {old = record { core = c.self.inside.core; begun = c.self.inside.begun; ending = c.self.inside.ending }}
     (record { sound = c.self.invariant.sound; top = top; asked = c.in-Do.ensures.asked }) c.in-Do.call c.in-Some.reply.now c.answer.new.self _ idle unended
@@ -63,7 +63,7 @@ returns-in-Err-clause-goes g c =
     c.in-Err.status c.why.result c.answer.new.self refl
     c.why.ensures (stopped-local-so c.self.inside.core c.in-Do.call c.in-Err.status c.answer.new.self local c.in-Err.ensures.cause))
     (duty-told _ _ top) (ap (λ x. record { core = x; begun = c.self.inside.begun; ending = c.self.inside.ending }) c.in-Err.ensures.stop)
-    c.ask_of.ensures.plans c.ask_of.ensures.regs
+    c.ask_of.ensures.plans.same c.ask_of.ensures.regs
     c.end_turn-in-Err.ensures.ends (c.end_turn-in-Err.ensures.seen ∙ c.ask_of.ensures.seen) c.end_turn-in-Err.ensures.turn)
 
 -- ITS CALL STOPPED
@@ -77,7 +77,7 @@ returns-in-Stop-clause-goes g c =
     c.in-Stop.status c.why-in-Stop.result c.step.new.self refl
     c.why-in-Stop.ensures (record { local = c.in-Stop.ensures.cause; shared = c.in-Stop.ensures.shared }))
     (duty-told _ _ top) (ap (λ x. record { core = x; begun = c.self-in-Do-2.inside.begun; ending = c.self-in-Do-2.inside.ending }) c.in-Stop.ensures.stop)
-    c.ask_of.ensures.plans c.ask_of.ensures.regs
+    c.ask_of.ensures.plans.same c.ask_of.ensures.regs
     c.end_turn-in-Stop.ensures.ends (c.end_turn-in-Stop.ensures.seen ∙ c.ask_of.ensures.seen) c.end_turn-in-Stop.ensures.turn)
 
 -- IT IS REPLIED TO
@@ -96,7 +96,7 @@ returns-in-Reply-clause-goes g c =
     let idle = ap (λ (r : Run). r.core.awaited) c.self-in-Do-2.view_is ∙ c.requires.idle in
     let unended = ap (λ (r : Run). r.ending) c.self-in-Do-2.view_is ∙ c.requires.unended in
     let local = not-shared c.in-Do.call c.in-Reply.ensures.shared in
-    let told = told-from _ _ _ _ _ (machine_frame c.args.frame.now ∷ []) c.in-Reply.reply c.ask_of.ensures.plans c.ask_of.ensures.regs
+    let told = told-from _ _ _ _ _ (machine_frame c.args.frame.now ∷ []) c.in-Reply.reply c.ask_of.ensures.plans.same c.ask_of.ensures.regs
     (c.note_at-in-Reply.ensures.others, c.note_at-in-Reply.ensures.kept) in
     rw (← c.self-in-Do-2.view_is) (replied-turn {old = record { core = c.self-in-Do-2.inside.core; begun = c.self-in-Do-2.inside.begun; ending = c.self-in-Do-2.inside.ending }}
     (record { sound = c.self-in-Do-2.invariant.sound; top = top; asked = c.in-Do.ensures.asked }) c.in-Do.call c.in-Reply.reply c.step.new.self _ idle unended
@@ -109,7 +109,7 @@ enter_at-requires g c =
     let there = target-there c.self-in-Do-2.inside.core c.in-Do.call c.in-Enter.target c.in-Enter.gifts c.step.new.self c.self-in-Do-2.invariant.sound c.in-Enter.ensures.enter
     in
     let same = ap (λ (r : Run). r.core.env.addons) c.self-in-Do-2.view_is in
-    omega (arith, there, same, c.requires.enough, c.ask_of.ensures.count)
+    omega (arith, there, same, c.requires.enough, c.ask_of.ensures.plans.count)
 
 pub invariant_of-self-in-Enter : goal.invariant_of-self-in-Enter
 invariant_of-self-in-Enter g c =

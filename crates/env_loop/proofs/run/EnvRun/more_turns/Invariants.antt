@@ -1,7 +1,8 @@
-use Rattle.std.proofs.Common.{◌≡◌, ℕ, List, Option, length, map}
+use Rattle.std.proofs.Common.{◌≡◌, ℕ, List, Option, map}
 use Rattle.napi_types.specs.declared.duties.DueInfo.{DueInfo}
 use Rattle.napi_types.specs.declared.op.Op.{Op}
-use Rattle.env_loop.specs.Bursts.{IsPaid, IsBurst}
+use Rattle.addon_trait.specs.Addons.{TellSamePlans}
+use Rattle.env_loop.specs.Bursts.{IsPaid, IsBurst, TurnsOn}
 use Rattle.env_loop.proofs.run.EnvRun.more_turns.Given as goal
 
 -- the turns so far made this many entries, and nothing is owed
@@ -10,12 +11,12 @@ invariant-loop-made g l =
     let first_plans : List (Option (List (List Op))) = map (λ b. (goal.Addon-dyn g (b.vtable, b.value)).plan b.value) l.fn.addons.items in
     let first_regs : List (List ℕ) = map (λ b. (goal.Addon-dyn g (b.vtable, b.value)).regs b.value) l.fn.addons.items in
     let first_seen : List (List DueInfo) = map (λ b. (goal.Addon-dyn g (b.vtable, b.value)).seen b.value) l.fn.addons.items in
-    let plans : List (Option (List (List Op))) = map (λ b. (goal.Addon-dyn g (b.vtable, b.value)).plan b.value) l.addons.items in
     let regs : List (List ℕ) = map (λ b. (goal.Addon-dyn g (b.vtable, b.value)).regs b.value) l.addons.items in
     let seen : List (List DueInfo) = map (λ b. (goal.Addon-dyn g (b.vtable, b.value)).seen b.value) l.addons.items in
     record {
-      count : length l.addons.items ≡ length l.fn.addons.items;
-      plans : plans ≡ first_plans;
+      plans : TellSamePlans (λ b. (goal.Addon-dyn g (b.vtable, b.value)).plan b.value) l.fn.addons.items l.addons.items;
+      on : TurnsOn g.N.Naming.numbers first_plans l.made (record { run = l.fn.self; hub = l.fn.hub; addons = record { registers = first_regs; seen = first_seen } })
+          (record { run = l.self; hub = l.hub; addons = record { registers = regs; seen = seen } });
       burst : IsBurst g.N.Naming.numbers first_plans l.made l.fn.self l.fn.hub (record { registers = first_regs; seen = first_seen }) l.self l.hub (record { registers = regs; seen = seen });
       paid : IsPaid l.self;
     }

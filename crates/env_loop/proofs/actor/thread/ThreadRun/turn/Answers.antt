@@ -3,6 +3,7 @@ use Rattle.std.proofs.lemmas.Bool.{ltb-true, ltb-false}
 use Rattle.napi_types.specs.declared.call.Call.{Call}
 use Rattle.napi_types.specs.declared.entry.Actor.TheVariants as actor
 use Rattle.napi_types.specs.declared.entry.Out.TheVariants as out
+use Rattle.napi_types.specs.declared.status.Status.{Status}
 use Rattle.napi_types.specs.hub.Actors.{thread_calls, EndsThread}
 use Rattle.napi_types.specs.hub.ThreadSteps.{is_gone_on, nothing_given}
 use Rattle.shared_hub.specs.HubStates.{HubSeen, hub_room}
@@ -26,6 +27,9 @@ thread_call-requires-clause-there g c κs within =
     thread-there g.N.Naming.numbers c.args.hub.now
     (record { number = c.self.inside.number; operations = c.self.inside.operations; made = c.self.inside.made; over = c.self.inside.over })
     c.knows.ensures (subst (λ (u : ThreadSeen). IsThreadOf g.N.Naming.numbers c.args.hub.now u) (sym c.self.view_is) c.requires) c.if-self.false live
+
+waits-no-stop : {s : Status} → tried.Wait ≡ tried.Stop s → ⊥
+waits-no-stop is = cc
 
 -- the call that was made is the next one
 next : (g : _) (c : After-call_of g) → drop c.self.inside.made (thread_calls c.self.inside.operations)
@@ -59,10 +63,11 @@ returns-in-Reply-clause-stands g c =
 pub returns-in-Wait-clause-blocked : goal.returns-in-Wait-clause-blocked
 returns-in-Wait-clause-blocked g c = λ _.
     let at = (goal.at.returns-in-Wait-clause-blocked g c).After-call_of in
-    subst (λ (u : ThreadSeen). ThreadBlocked c.args.hub.now.hub u) c.self.view_is
-    (waits-here c.args.hub.now.hub
+    subst (λ (u : ThreadSeen). ThreadBlocked (hub_room g.N.Naming.numbers c.args.hub.now) c.args.hub.now.hub u) c.self.view_is
+    (waits-here (hub_room g.N.Naming.numbers c.args.hub.now) c.args.hub.now.hub
     (record { number = c.self.inside.number; operations = c.self.inside.operations; made = c.self.inside.made; over = c.self.inside.over }) c.call_of.result
-    (drop (c.self.inside.made + 1) (thread_calls c.self.inside.operations)) c.if-self.false (next g at) c.call_of.ensures.kind c.in-Wait.ensures.waits)
+    (drop (c.self.inside.made + 1) (thread_calls c.self.inside.operations)) c.if-self.false (next g at) c.call_of.ensures.kind
+    (λ is. waits-no-stop (c.in-Wait.ensures.full.1 is)) c.in-Wait.ensures.waits)
 
 pub returns-in_default-clause-cut : goal.returns-in_default-clause-cut
 returns-in_default-clause-cut g c = λ _.
