@@ -11,6 +11,7 @@ use Rattle.napi_types.specs.declared.entry.Duty.TheVariants as duty
 use Rattle.napi_types.specs.declared.entry.Entry.{Entry}
 use Rattle.napi_types.specs.declared.entry.Out.{Out}
 use Rattle.napi_types.specs.plain.Lists.{has_number, is_empty}
+use Rattle.napi_types.specs.plain.Room.{Room}
 use Rattle.napi_types.specs.parts.Pool.{executed_by}
 use Rattle.napi_types.specs.hub.Actors.{WorkerState, Free, Working, Over, thread_calls}
 use Rattle.napi_types.specs.hub.Hub.{Hub, threads_left, workers_left, left_of, new_hub}
@@ -24,7 +25,7 @@ use Rattle.napi_types.proofs.plain.Conditions.{and-left, and-right}
 use Rattle.napi_types.proofs.hub.HubCases.{HubCase, hub-case, delivers}
 use Rattle.napi_types.proofs.hub.ThreadEnds.{ended-threads-left}
 use Rattle.napi_types.proofs.hub.WhoIsLeft.{left-tells, left-unless}
-use Rattle.shared_hub.specs.HubStates.{HubSeen}
+use Rattle.shared_hub.specs.HubStates.{HubSeen, hub_room}
 use Rattle.shared_hub.specs.KeptHubs.{IsLedHub}
 use Rattle.shared_hub.specs.declared.naming.Numbers.{Numbers}
 use Rattle.env_loop.specs.ActorRuns.{calls_left, NextWaits, ThreadBlocked, HeldWork, NoWork, Started, Executed, held_state}
@@ -91,8 +92,8 @@ along-workers limit n h (x ∷ xs) replays = along-workers limit (n + 1) (hub_st
 
 -- it has ended, or it waits
 module _ {J : Type 0} where
-  abbrev pub IsStillAt : Hub → ActorRun J → Type 0
-  IsStillAt h a = (is_over a ≡ true) ⊎ IsBlocked h a
+  abbrev pub IsStillAt : Numbers → HubSeen → ActorRun J → Type 0
+  IsStillAt n s a = (is_over a ≡ true) ⊎ IsBlocked n s a
 
 still-left : (b left : Bool) → left ≡ not b → b ≡ true → left ≡ true → ⊥
 still-left true left is over there = cc
@@ -104,10 +105,10 @@ StaysStill h actor.Env = Unit {0}
 StaysStill h (actor.Thread t) = ThreadGoesOn h t → ⊥
 StaysStill h (actor.Worker w) = WorkerGoesOn h w → ⊥
 
-next-waits : (h : Hub) (t : ℕ) (o : Option (List Call)) → NextWaits h t o → ((c : Call) → waits_at h t c ≡ false) → ⊥
-next-waits h t None waits answered = absurd waits
-next-waits h t (Some []) waits answered = absurd waits
-next-waits h t (Some (c ∷ later)) waits answered = true≢false (sym waits ∙ answered c)
+next-waits : (r : Room) (h : Hub) (t : ℕ) (o : Option (List Call)) → NextWaits r h t o → ((c : Call) → waits_at h t c ≡ false) → ⊥
+next-waits r h t None waits answered = absurd waits
+next-waits r h t (Some []) waits answered = absurd waits
+next-waits r h t (Some (c ∷ later)) waits answered = true≢false (sym waits.1 ∙ answered c)
 
 none-left : (h : Hub) (a : Actor) → is_spent h ≡ true → IsOther a → is_unended h a ≡ false
 none-left h actor.Env spent other = absurd other
@@ -145,16 +146,16 @@ module _ {J : Type 0} (n : Numbers) (s : HubSeen) (k : IsLedHub n s) where
       ended false is = cc
 
   -- WHO GOES ON
-  still-stays : (a : ActorRun J) → IsActorOf n s a → IsStillAt s.hub a → StaysStill s.hub (actor_of a)
+  still-stays : (a : ActorRun J) → IsActorOf n s a → IsStillAt n s a → StaysStill s.hub (actor_of a)
   still-stays (run.OfThread t) of still = λ on. thread still on
     where
-      thread : (t.over ≡ true) ⊎ ThreadBlocked s.hub t → ThreadGoesOn s.hub t.number → ⊥
+      thread : (t.over ≡ true) ⊎ ThreadBlocked (hub_room n s) s.hub t → ThreadGoesOn s.hub t.number → ⊥
       thread (inl over) on =
           still-left t.over (has_number t.number (threads_left s.hub)) (left-unended (run.OfThread t) of) over
           (and-right (is_gone_on s.hub.stage) (has_number t.number (threads_left s.hub)) on.there)
       thread (inr (inl before)) on =
           true≢false (sym (and-left (is_gone_on s.hub.stage) (has_number t.number (threads_left s.hub)) on.there) ∙ before)
-      thread (inr (inr waits)) on = next-waits s.hub t.number (calls_left t) waits on.answered
+      thread (inr (inr waits)) on = next-waits (hub_room n s) s.hub t.number (calls_left t) waits on.answered
   still-stays (run.OfWorker w) of still = λ on. worker still on
     where
       worker : (w.over ≡ true) ⊎ (worker_waits s.hub w.number ≡ true) → WorkerGoesOn s.hub w.number → ⊥
@@ -162,14 +163,14 @@ module _ {J : Type 0} (n : Numbers) (s : HubSeen) (k : IsLedHub n s) where
       worker (inr waits) on = true≢false (sym waits ∙ on.busy)
 
   -- where each of the actors has ended or waits nobody goes on
-  pub nobody-goes-on : (actors : List (ActorRun J)) → map actor_of actors ≡ actors_of n → All (IsActorOf n s) actors → All (IsStillAt s.hub) actors → SomebodyGoesOn s.hub → ⊥
+  pub nobody-goes-on : (actors : List (ActorRun J)) → map actor_of actors ≡ actors_of n → All (IsActorOf n s) actors → All (IsStillAt n s) actors → SomebodyGoesOn s.hub → ⊥
   nobody-goes-on actors order stand still on = by on
     where
-      both : (xs : List (ActorRun J)) → All (IsActorOf n s) xs → All (IsStillAt s.hub) xs → All (λ a. StaysStill s.hub (actor_of a)) xs
+      both : (xs : List (ActorRun J)) → All (IsActorOf n s) xs → All (IsStillAt n s) xs → All (λ a. StaysStill s.hub (actor_of a)) xs
       both [] p q = All-nil (λ a. StaysStill s.hub (actor_of a))
       both (x ∷ xs) p q =
-          All-cons (λ a. StaysStill s.hub (actor_of a)) x xs (still-stays x (All-head (IsActorOf n s) x xs p) (All-head (IsStillAt s.hub) x xs q))
-          (both xs (All-tail (IsActorOf n s) x xs p) (All-tail (IsStillAt s.hub) x xs q))
+          All-cons (λ a. StaysStill s.hub (actor_of a)) x xs (still-stays x (All-head (IsActorOf n s) x xs p) (All-head (IsStillAt n s) x xs q))
+          (both xs (All-tail (IsActorOf n s) x xs p) (All-tail (IsStillAt n s) x xs q))
 
       all : All (StaysStill s.hub) (actors_of n)
       all = subst (All (StaysStill s.hub)) order (All-map (StaysStill s.hub) actor_of actors (both actors stand still))

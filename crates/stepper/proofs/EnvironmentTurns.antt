@@ -102,6 +102,7 @@ module _ (n : Numbers) (plans : List Plan) (old owing new : Run) (before after :
       full = (λ is. t.full.0 (ap (λ v. turn.Cut v) is), λ full. was (t.full.1 full));
       memory = λ is. t.memory (ap (λ v. turn.Cut v) is);
       no_asks = t.cut.0;
+      free = unended P awaits;
       run = t.cut.1;
       hub = t.hub (λ e. cc);
       addons = record { registers = t.same (λ e. cc); seen = sees-none owes t.seen };
@@ -165,6 +166,7 @@ module _ (n : Numbers) (plans : List Plan) (old owing new : Run) (before after :
       owing = owing;
       comes = a.comes;
       one = x;
+      paid = (t.paid refl).1;
       journal = t.keeps.journal ∙ (λ i. (a.comes.owes i).core.journal);
       seen = t.seen;
       untouched = subst (λ (e : Environment). OnlyInnermostChanges e.frames new.core.env.frames all.registers now.registers) (λ i. (a.comes.owes i).core.env) (t.untouched refl);
@@ -245,13 +247,13 @@ made-unowed old new true is once one = absurd (longer (length old.core.journal) 
     longer a b more same = omega (arith, more, same)
 
 pub went-alone : (n : Numbers) (plans : List Plan) (old new : Run) (before : HubSeen) (all now : AddonStates) → IsLedHub n before → turn_after new old.core.env ≡ local.Made
-    → OneMore old.core.journal new.core.journal → length old.core.journal < old.core.limit → (IsTrue (owes_hub old) → new ≡ old)
+    → OneMore old.core.journal new.core.journal → new.ending ≡ None → length old.core.journal < old.core.limit → (IsTrue (owes_hub old) → new ≡ old)
     → HasSeen all.seen (option_to_list (begins_next old.core.env)) now.seen → OnlyInnermostChanges old.core.env.frames new.core.env.frames all.registers now.registers
     → FitsHub new before → RunKeeps n plans (record { run = old; hub = before; addons = all }) (record { run = new; hub = before; addons = now })
     → EnvironmentSteps n plans false (record { run = old; hub = before; addons = all }) (record { run = new; hub = before; addons = now })
-went-alone n plans old new before all now led made one room once seen untouched fits kept = record {
+went-alone n plans old new before all now led made one paid room once seen untouched fits kept = record {
   led = led;
-  turn = inl (record { unowed = made-unowed old new (owes_hub old) refl once one; turn = made; one = one; hub = refl; seen = seen; untouched = untouched });
+  turn = inl (record { unowed = made-unowed old new (owes_hub old) refl once one; turn = made; one = one; paid = paid; hub = refl; seen = seen; untouched = untouched });
   stands = record { fits = fits; answered = made-answered new.core.awaited (is_some new.ending && is_hub_duty (duty_of new.core.env.frames)) (turn_of old.core.env) made };
   kept = kept;
   spent = λ final. inl final;

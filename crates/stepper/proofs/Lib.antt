@@ -1,6 +1,7 @@
 mod ActorPlaces
 mod Endings
 mod EnvironmentTurns
+mod ListTurns
 mod Openings
 mod OrderedTurns
 mod RoundSteps

@@ -1,5 +1,5 @@
 -- How all begins, and how it ends.
-use Rattle.std.proofs.Common.{◌≡◌, ◌∙◌, true, List, [], ◌∷◌, map, length, get_or, ap, sym, subst, arith}
+use Rattle.std.proofs.Common.{◌≡◌, ◌∙◌, ℕ, true, false, List, [], ◌∷◌, ◌++◌, map, length, get_or, is_some, ap, sym, subst, arith}
 use Rattle.std.specs.List.{All}
 use Rattle.std.proofs.lemmas.List.{get_or-map, length-map}
 use Rattle.std.proofs.lemmas.List.Elements.{All-nil, All-get_or, All-from_get_or}
@@ -7,22 +7,28 @@ use Rattle.napi_types.specs.declared.entry.Actor.{Actor}
 use Rattle.napi_types.specs.declared.entry.Actor.TheVariants as actor
 use Rattle.napi_types.specs.declared.entry.Phase.{Phase}
 use Rattle.napi_types.specs.declared.entry.Phase.TheVariants as phase
+use Rattle.napi_types.specs.environment.Changes.{opening_change}
+use Rattle.napi_types.specs.environment.Environment.{new_environment}
 use Rattle.napi_types.specs.hub.Hub.{Stage, Final, Before}
 use Rattle.napi_types.specs.scripts.Plans.{Plan}
+use Rattle.napi_types.specs.all_runs.TurnsInOrder.{BothLists, TurnsLead}
+use Rattle.env_core.specs.Core.{Core}
 use Rattle.shared_hub.specs.HubStates.{HubSeen, hub_seen}
 use Rattle.shared_hub.specs.KeptHubs.{IsLedHub}
 use Rattle.shared_hub.specs.declared.naming.Numbers.{Numbers}
 use Rattle.env_loop.specs.declared.actor.ActorRun.{ActorRun}
 use Rattle.env_loop.specs.ActorTurns.{actor_of, is_over, IsActorAt, IsActorOf, IsFreshActor}
-use Rattle.env_loop.specs.FollowedRuns.{GoesOnAt}
-use Rattle.env_loop.specs.RecordedRuns.{FitsHub, Shows}
+use Rattle.env_loop.specs.FollowedRuns.{GoesOnAt, IsFollowed}
+use Rattle.env_loop.specs.RecordedRuns.{Run, FitsHub, Shows}
 use Rattle.env_loop.proofs.HubGoing.{replays-in, gone-ended}
 use Rattle.env_loop.specs.OpenedAndGone.{IsOpenedRun, EndsWhole}
 use Rattle.env_loop.proofs.FreshAndEnded.{opened-runs-fit, fresh-actors-stand}
-use Rattle.stepper.specs.TakingPart.{actors_of}
+use Rattle.stepper.specs.TakingPart.{actors_of, turns_of, rounds_of}
 use Rattle.stepper.specs.GivenTurns.{RunAtHub, Moment, moment_of}
-use Rattle.stepper.specs.Stepping.{RunStands, RunKeeps, Stands}
+use Rattle.stepper.specs.ListTurns.{lists_at, AroseWhole}
+use Rattle.stepper.specs.Stepping.{RunStands, RunKeeps, Stands, Steps}
 use Rattle.stepper.proofs.ActorPlaces.{stands-there}
+use Rattle.stepper.proofs.ListTurns.{both-same}
 
 -- THE ENVIRONMENT
 opened-stands : (n : Numbers) (m : RunAtHub) → IsOpenedRun m.run → m.hub ≡ hub_seen n [] → RunStands m
@@ -80,3 +86,29 @@ ended-at-last {J = J} n plans start last m empty kept same gone led =
     let P : Moment J → Type 0 = λ k. EndsWhole n plans start.run start.addons (record { journal = k.env.run.core.journal; history = k.env.hub.history }) k.env.addons in
     subst P (sym same) (λ s firsts numbers of followed.
     gone-ended s last.env.run last.env.hub.history last.env.addons firsts (replays-in n s last.env.hub there numbers) (goes s firsts numbers of followed) gone)
+
+-- the lists of a run that opened
+opened-lists : {J : Type 0} (n : Numbers) (m : Moment J) → IsOpenedRun m.env.run → m.env.hub ≡ hub_seen n []
+    → lists_at m ≡ record { journal = record { at = 0; entry = (opening_change (new_environment 0 0)).entry } ∷ []; history = []; stopped = false }
+opened-lists n m opened empty =
+    both-same m.env.run.core.journal (record { at = 0; entry = (opening_change (new_environment 0 0)).entry } ∷ []) m.env.hub.history [] (is_some m.env.run.ending) false
+    (ap (λ (c : Core). c.journal) opened.core) (ap (λ (s : HubSeen). s.history) empty) (ap (λ (r : Run). is_some r.ending) opened.opened)
+
+-- and the two lists arose by the turns that led from there
+pub arose-at-last : {J : Type 0} (n : Numbers) (plans : List Plan) (schedule : List Actor) (rounds : ℕ) (start last m : Moment J) → IsOpenedRun start.env.run
+    → start.env.hub ≡ hub_seen n [] → Steps n plans (turns_of schedule ++ rounds_of n rounds) start last → m ≡ last
+    → AroseWhole n plans schedule start.env.run start.env.addons start.actors (record { journal = m.env.run.core.journal; history = m.env.hub.history })
+arose-at-last {J = J} n plans schedule rounds start last m opened empty steps same = (
+  rounds,
+  λ s scripts firsts numbers of followed has.
+      let turns : List Actor = turns_of schedule ++ rounds_of n rounds in
+      let led : TurnsLead s scripts turns (lists_at start) (lists_at last) =
+      steps.lists s scripts firsts numbers of
+      (subst (λ xs. IsFollowed s start.env.run xs start.env.addons firsts) (sym (ap (λ (u : HubSeen). u.history) empty)) followed) has in
+      record {
+        opening = record { at = 0; entry = (opening_change (new_environment 0 0)).entry };
+        stopped = is_some m.env.run.ending;
+        led = subst (λ (l : BothLists). TurnsLead s scripts turns l (lists_at m)) (opened-lists n start opened empty)
+            (subst (λ (k : Moment J). TurnsLead s scripts turns (lists_at start) (lists_at k)) (sym same) led);
+      },
+)

@@ -7,6 +7,7 @@ use Rattle.std.proofs.lemmas.List.{get_or-map, length-map}
 use Rattle.napi_types.specs.declared.entry.Actor.{Actor}
 use Rattle.napi_types.specs.declared.entry.Actor.TheVariants as actor
 use Rattle.napi_types.specs.declared.entry.Entry.{Entry}
+use Rattle.napi_types.specs.declared.op.Op.{Op}
 use Rattle.napi_types.specs.plain.Entries.{is_environment}
 use Rattle.napi_types.specs.plain.Lists.{one}
 use Rattle.napi_types.specs.plain.Room.{one_if}
@@ -14,13 +15,15 @@ use Rattle.napi_types.specs.scripts.Plans.{Plan}
 use Rattle.napi_types.specs.hub.Actors.{is_thread, is_worker}
 use Rattle.napi_types.specs.hub.Hub.{Hub, Final}
 use Rattle.napi_types.specs.hub.HubMoves.{is_spent}
+use Rattle.napi_types.specs.runs.Setting.{Setting}
+use Rattle.napi_types.specs.all_runs.TurnsInOrder.{IsStill, OtherTakesTurn, TakesTurn}
 use Rattle.napi_types.proofs.hub.OthersKeep.{others-keep-hub}
 use Rattle.shared_hub.specs.HubStates.{HubSeen, AddsEntry}
 use Rattle.shared_hub.specs.KeptHubs.{IsLedHub}
 use Rattle.shared_hub.specs.declared.naming.Numbers.{Numbers}
 use Rattle.env_loop.specs.ActorRuns.{AddsEntryOf}
 use Rattle.env_loop.specs.ActorTurns.{actor_of, is_over, IsActorOf, IsSameActor, with_work_executed}
-use Rattle.env_loop.specs.FollowedRuns.{GoesOnAt, IsFollowed}
+use Rattle.env_loop.specs.FollowedRuns.{GoesOnAt, IsFollowed, HasNumbers}
 use Rattle.env_loop.specs.Recording.{AddonStates}
 use Rattle.env_loop.specs.RecordedRuns.{Run, FitsHub}
 use Rattle.env_loop.specs.declared.actor.ActorRun.{ActorRun}
@@ -30,9 +33,11 @@ use Rattle.env_loop.proofs.FollowedRuns.{fitting-runs-stand, others-may-add}
 use Rattle.env_loop.proofs.SameActors.{same-actor-none, same-actor-then}
 use Rattle.stepper.specs.TakingPart.{actors_of, actor_place}
 use Rattle.stepper.specs.GivenTurns.{RunAtHub, Moment, moment_of, TurnOf, TurnOfActor, TurnsThrough, EnvironmentTurns, ActorTurns}
+use Rattle.stepper.specs.ListTurns.{lists_at, HasScript}
 use Rattle.stepper.specs.Stepping.{measure, RunKeeps, EnvironmentSteps, ActorSteps, Stands, Steps}
 use Rattle.stepper.proofs.ActorPlaces.{IsOther, stands-there, StandsThere}
 use Rattle.stepper.proofs.Endings.{spent-over, IsStillAt}
+use Rattle.stepper.proofs.ListTurns.{turns-then, lists-turn, has-same, all-have, is-still}
 
 -- THE ENVIRONMENT
 pub goes-then : (n : Numbers) (plans : List Plan) (old mid new : Run) (xs ys zs : List Entry) (all now later : AddonStates) → mid.core.env.addons ≡ old.core.env.addons
@@ -101,12 +106,22 @@ module _ {J : Type 0} where
   through-then n plans (who ∷ xs) ys old mid new first second = (first.0, first.1, through-then n plans xs ys first.0 mid new first.2 second)
 
   pub steps-none : (n : Numbers) (plans : List Plan) (m : Moment J) → Stands n m → Steps n plans [] m m
-  steps-none n plans m stands = record { turns = refl; stands = stands; same = all-same m.actors; kept = keeps-none n plans m.env }
+  steps-none n plans m stands = record {
+    turns = refl;
+    lists = λ s scripts firsts numbers of followed has. refl;
+    stands = stands;
+    same = all-same m.actors;
+    kept = keeps-none n plans m.env;
+  }
 
   pub steps-then : (n : Numbers) (plans : List Plan) (xs ys : List Actor) (old mid new : Moment J) → Steps n plans xs old mid → Steps n plans ys mid new
       → Steps n plans (xs ++ ys) old new
   steps-then n plans xs ys old mid new first second = record {
     turns = through-then n plans xs ys old mid new first.turns second.turns;
+    lists = λ s scripts firsts numbers of followed has.
+        turns-then s scripts xs ys (lists_at old) (lists_at mid) (lists_at new) (first.lists s scripts firsts numbers of followed has)
+        (second.lists s scripts firsts numbers (record { count = of.count ∙ sym first.kept.addons; first = of.first }) (first.kept.goes s firsts numbers of followed)
+        (all-have scripts old.actors mid.actors first.same has));
     stands = second.stands;
     same = all-then old.actors mid.actors new.actors first.same second.same;
     kept = keeps-then n plans old.env mid.env new.env first.kept second.kept;
@@ -153,6 +168,8 @@ module _ {J : Type 0} where
       → EnvironmentSteps n plans gone old new → Steps n plans (one actor.Env) (moment_of old actors) (moment_of new actors)
   environment-step n plans gone old new actors stands went = record {
     turns = (moment_of new actors, record { turn = went.turn; goes = went.kept.goes; actors = refl }, refl);
+    lists = λ s scripts firsts numbers of followed has.
+        (lists_at (moment_of new actors), lists-turn n plans old new s firsts numbers went.led followed (went.kept.goes s firsts numbers of followed) went.turn, refl);
     stands = record {
       env = went.stands;
       actors = record {
@@ -292,12 +309,39 @@ module _ {J : Type 0} where
     turn-of plans (actor.Thread t) named is at = turn-by (actor.Thread t) is at
     turn-of plans (actor.Worker w) named is at = turn-by (actor.Worker w) is at
 
+    -- the turn as the two lists show it
+    lists-of : (t : Setting) (scripts : List (List Op)) → HasNumbers t n → All (HasScript scripts) m.actors → (who : Actor) → actor_of s.actor ≡ who
+        → ActorTurns n (get_or m.actors place s.actor) before s.actor after
+        → OtherTakesTurn t scripts who (lists_at m) (lists_at (moment_of (record m.env { hub = after }) actors))
+    lists-of t scripts numbers has who is (inl made) =
+        inl (record { entry = made.one.entry; by = made.one.by ∙ same-name (get_or m.actors place s.actor) s.actor s.same ∙ is; journal = refl; history = made.one.adds.history }, refl)
+    lists-of t scripts numbers has who is (inr stays) =
+        let own : HasScript scripts s.actor =
+        has-same scripts (get_or m.actors place s.actor) s.actor s.same (All-get_or (HasScript scripts) m.actors place s.actor inside has) in
+        inr (
+          subst (λ w. IsStill t scripts w before.history) is
+              (is-still n t scripts before s.actor s.led.0 numbers (subst (λ u. IsActorOf n u s.actor) stays.hub s.stands) own stays.still),
+          ap (λ (u : HubSeen). lists_at (moment_of (record m.env { hub = u }) actors)) stays.hub,
+        )
+
+    lists-by : (t : Setting) (scripts : List (List Op)) → HasNumbers t n → All (HasScript scripts) m.actors → (who : Actor) → IsOther who → actor_of s.actor ≡ who
+        → TakesTurn t scripts who (lists_at m) (lists_at (moment_of (record m.env { hub = after }) actors))
+    lists-by t scripts numbers has actor.Env named is = absurd named
+    lists-by t scripts numbers has (actor.Thread u) named is = lists-of t scripts numbers has (actor.Thread u) is s.turn
+    lists-by t scripts numbers has (actor.Worker w) named is = lists-of t scripts numbers has (actor.Worker w) is s.turn
+
     pub actor-step : (plans : List Plan) → Steps n plans (one (get_or (actors_of n) place actor.Env)) m (moment_of (record m.env { hub = after }) actors)
     actor-step plans = record {
       turns = (
         moment_of (record m.env { hub = after }) actors,
         subst (λ who. TurnOf n plans who m (moment_of (record m.env { hub = after }) actors)) name
             (turn-of plans (actor_of s.actor) other refl there.place),
+        refl,
+      );
+      lists = λ t scripts firsts numbers of followed has. (
+        lists_at (moment_of (record m.env { hub = after }) actors),
+        subst (λ who. TakesTurn t scripts who (lists_at m) (lists_at (moment_of (record m.env { hub = after }) actors))) name
+            (lists-by t scripts numbers has (actor_of s.actor) other refl),
         refl,
       );
       stands = record {
@@ -316,12 +360,12 @@ module _ {J : Type 0} where
     named-step plans who is = subst (λ w. Steps n plans (one w) m (moment_of (record m.env { hub = after }) actors)) is (actor-step plans)
 
     -- the entry of a turn lowers the measure, and else the actor stays still
-    pub actor-falls : (run : Run) → (measure n run after < measure n run before) ⊎ ((after ≡ before) × IsStillAt before.hub s.actor)
+    pub actor-falls : (run : Run) → (measure n run after < measure n run before) ⊎ ((after ≡ before) × IsStillAt n before s.actor)
     actor-falls run = by s.turn
       where
         less : (z limit a b r f : ℕ) → a ≡ b + 1 → a + r ≤ limit → 2 * (z + (limit - a)) + f < 2 * (z + (limit - b)) + f
         less z limit a b r f more within = omega (arith, more, within)
 
-        by : ActorTurns n (get_or m.actors place s.actor) before s.actor after → (measure n run after < measure n run before) ⊎ ((after ≡ before) × IsStillAt before.hub s.actor)
+        by : ActorTurns n (get_or m.actors place s.actor) before s.actor after → (measure n run after < measure n run before) ⊎ ((after ≡ before) × IsStillAt n before s.actor)
         by (inl made) = inl (less _ _ _ _ _ (one_if (is_none run.ending)) (ap length made.one.adds.history ∙ length-append before.history (one made.one.entry)) s.led.1.within)
         by (inr stays) = inr (stays.hub, stays.still)

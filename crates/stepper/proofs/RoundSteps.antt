@@ -31,6 +31,7 @@ use Rattle.stepper.specs.TakingPart.{actors_of, round_of, rounds_of, turns_of, i
 use Rattle.stepper.specs.GivenTurns.{RunAtHub, Moment, moment_of, IsIdle, WasGone}
 use Rattle.stepper.specs.Stepping.{measure, Stands, Steps, RoundSteps}
 use Rattle.stepper.proofs.Endings.{IsStillAt, nobody-goes-on}
+use Rattle.stepper.proofs.ListTurns.{unowed-turn}
 use Rattle.stepper.proofs.OrderedTurns.{steps-then}
 
 -- AN ENVIRONMENT THAT HAS NOTHING TO DO
@@ -62,10 +63,6 @@ early-phase e phase.Gone s shows none needs = cc
 no-frame : (fs : List Frame) (e : Environment) → turn_at fs e ≡ turn.NeedsHub → event_turn (local_choice e) e.phase ≡ turn.NeedsHub
 no-frame [] e needs = needs
 no-frame (f ∷ fs) e needs = cc
-
-unowed-turn : (b : Bool) (t : LocalTurn) → b ≡ false → cond b turn.NeedsHub t ≡ turn.NeedsHub → t ≡ turn.NeedsHub
-unowed-turn true t unowed needs = cc
-unowed-turn false t unowed needs = needs
 
 -- so the hub has an event, or somebody goes on
 idle-goes-on : (n : Numbers) (r : Run) (s : HubSeen) → IsLedHub n s → FitsHub r s → needs_hub r → owes_hub r ≡ false → hub_event r.core.env s.hub ≡ None → SomebodyGoesOn s.hub
@@ -140,20 +137,20 @@ module _ {J : Type 0} where
 
   -- A ROUND
   -- the environment had nothing to do at its turn, and each that had its turn since has ended or waits
-  pub record Idling (old now : RunAtHub) (passed : List (ActorRun J)) : Type 0 where
+  pub record Idling (n : Numbers) (old now : RunAtHub) (passed : List (ActorRun J)) : Type 0 where
     pub idle : IsIdle old now
-    pub still : All (IsStillAt old.hub.hub) passed
+    pub still : All (IsStillAt n old.hub) passed
 
   abbrev pub Progress : Numbers → RunAtHub → RunAtHub → List (ActorRun J) → Type 0
-  Progress n old now passed = (measure n now.run now.hub < measure n old.run old.hub) ⊎ Idling old now passed
+  Progress n old now passed = (measure n now.run now.hub < measure n old.run old.hub) ⊎ Idling n old now passed
 
   pub progress-none : (n : Numbers) (old now : RunAtHub) → (measure n now.run now.hub < measure n old.run old.hub) ⊎ IsIdle old now → Progress n old now []
   progress-none n old now (inl less) = inl less
-  progress-none n old now (inr idle) = inr (record { idle = idle; still = All-nil (IsStillAt old.hub.hub) })
+  progress-none n old now (inr idle) = inr (record { idle = idle; still = All-nil (IsStillAt n old.hub) })
 
   pub progress-more : (n : Numbers) (old now : RunAtHub) (actors : List (ActorRun J)) (place : ℕ) (a : ActorRun J) (after : HubSeen) → place < length actors
       → Progress n old now (take place actors)
-      → (measure n now.run after < measure n now.run now.hub) ⊎ ((after ≡ now.hub) × IsStillAt now.hub.hub a)
+      → (measure n now.run after < measure n now.run now.hub) ⊎ ((after ≡ now.hub) × IsStillAt n now.hub a)
       → Progress n old (record now { hub = after }) (take (place + 1) (set actors place a))
   progress-more n old now actors place a after inside (inl less) (inl falls) = inl (lt_trans falls less)
   progress-more n old now actors place a after inside (inl less) (inr still) =
@@ -171,9 +168,9 @@ module _ {J : Type 0} where
       addons = idling.idle.addons;
     };
     still =
-        All-same (IsStillAt old.hub.hub) (take (place + 1) (set actors place a)) (take place actors ++ a ∷ []) (take_more_set actors place a inside)
-        (All-append (IsStillAt old.hub.hub) (take place actors) (a ∷ []) idling.still
-        (All-cons (IsStillAt old.hub.hub) a [] (subst (λ (s : HubSeen). IsStillAt s.hub a) idling.idle.hub still.1) (All-nil (IsStillAt old.hub.hub))));
+        All-same (IsStillAt n old.hub) (take (place + 1) (set actors place a)) (take place actors ++ a ∷ []) (take_more_set actors place a inside)
+        (All-append (IsStillAt n old.hub) (take place actors) (a ∷ []) idling.still
+        (All-cons (IsStillAt n old.hub) a [] (subst (λ (s : HubSeen). IsStillAt n s a) idling.idle.hub still.1) (All-nil (IsStillAt n old.hub))));
   })
 
   pub progress-at : (n : Numbers) (old now : RunAtHub) (count : ℕ) (actors new : List (ActorRun J)) → new ≡ actors → Progress n old now (take count actors) → Progress n old now (take count new)

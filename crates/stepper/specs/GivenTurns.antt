@@ -14,23 +14,19 @@ use Rattle.shared_hub.specs.HubStates.{HubSeen, hub_room}
 use Rattle.shared_hub.specs.SharedTries.{given_by, MayFindNoMemory}
 use Rattle.shared_hub.specs.declared.naming.Numbers.{Numbers}
 use Rattle.env_core.specs.Sharing.{after_no_answer}
+pub use Rattle.env_loop.specs.Bursts.{RunAtHub}
 use Rattle.env_loop.specs.declared.actor.ActorRun.{ActorRun}
 use Rattle.env_loop.specs.declared.run.FrameEnd.TheVariants as end
 use Rattle.env_loop.specs.declared.turn.LocalTurn.TheVariants as local
 use Rattle.env_loop.specs.ActorRuns.{AddsEntryOf}
-use Rattle.env_loop.specs.ActorTurns.{actor_of, is_over, IsActorOf, IsSameActor, IsBlocked, StoppedSo, with_work_executed}
+use Rattle.env_loop.specs.ActorTurns.{actor_of, is_over, HoldsNoneExecuted, IsActorOf, IsSameActor, IsBlocked, StoppedSo, with_work_executed}
 use Rattle.env_loop.specs.FollowedRuns.{RunGoesOn, GoesOnAt}
 use Rattle.env_loop.specs.Recording.{AddonStates, HasSeen}
 use Rattle.env_loop.specs.RecordedRuns.{Run, OneMore, owes_hub}
 use Rattle.env_loop.specs.Turns.{turn_after, needs_hub, begins_next, begins_at_hub, hub_event, Awaits, OnlyInnermostChanges, OwesAlone}
 use Rattle.stepper.specs.TakingPart.{actor_place}
 
--- the environment's run, the hub beside it, and what is seen of the addons
-pub record RunAtHub : Type 0 where
-  pub run : Run
-  pub hub : HubSeen
-  pub addons : AddonStates
-
+-- a moment of the environment's run
 abbrev pub run_at : Run → HubSeen → Registers → List (List DueInfo) → RunAtHub
 run_at run hub registers seen = record { run = run; hub = hub; addons = record { registers = registers; seen = seen } }
 
@@ -40,11 +36,12 @@ pub record KeepsAddons (old new : AddonStates) : Type 0 where
   pub registers : new.registers ≡ old.registers
   pub seen : HasSeen old.seen [] new.seen
 
--- it made one entry of the journal, by itself
+-- it made one entry of the journal, by itself, and no end is owed after it
 pub record MakesLocal (old new : RunAtHub) : Type 0 where
   pub unowed : owes_hub old.run ≡ false
   pub turn : turn_after new.run old.run.core.env ≡ local.Made
   pub one : OneMore old.run.core.journal new.run.core.journal
+  pub paid : new.run.ending ≡ None
   pub hub : new.hub ≡ old.hub
   pub seen : HasSeen old.addons.seen (option_to_list (begins_next old.run.core.env)) new.addons.seen
   pub untouched : OnlyInnermostChanges old.run.core.env.frames new.run.core.env.frames old.addons.registers new.addons.registers
@@ -57,17 +54,18 @@ pub record ComesToTheHub (plans : List Plan) (all : AddonStates) (old owing : Ru
   pub stays : owes_hub owing ≡ false → owing ≡ old
   pub goes : (history : List Entry) → RunGoesOn plans old history all owing history all
 
--- it made one entry of the history
+-- it made one entry of the history, and no end is owed after it
 pub record MakesAtHub (plans : List Plan) (old new : RunAtHub) : Type 0 where
   pub owing : Run
   pub comes : ComesToTheHub plans old.addons old.run owing
   pub one : AddsEntryOf actor.Env old.hub new.hub
+  pub paid : new.run.ending ≡ None
   pub journal : new.run.core.journal ≡ old.run.core.journal
   pub seen : HasSeen old.addons.seen (option_to_list (begins_at_hub owing old.hub.hub)) new.addons.seen
   pub untouched : OnlyInnermostChanges old.run.core.env.frames new.run.core.env.frames old.addons.registers new.addons.registers
 
 -- the hub stopped its call, as full exactly where the history has no room for it, or for want of memory. It made no entry: only the position moved, and the frame is
--- to end so
+-- to end so, of which no end was owed before
 pub record IsStopped (n : Numbers) (plans : List Plan) (old new : RunAtHub) : Type 0 where
   pub owing : Run
   pub comes : ComesToTheHub plans old.addons old.run owing
@@ -75,6 +73,7 @@ pub record IsStopped (n : Numbers) (plans : List Plan) (old new : RunAtHub) : Ty
   pub full : (cause ≡ why.Full) ↔ Awaits owing.core.awaited (λ c. IsTrue (is_full (hub_room n old.hub) c.call))
   pub memory : cause ≡ why.Memory → Awaits owing.core.awaited (λ c. MayFindNoMemory (hub_room n old.hub) old.hub.hub actor.Env (given_by c) c.call)
   pub no_asks : cause ≢ why.Asks
+  pub free : old.run.ending ≡ None
   pub run : new.run ≡ record owing { core = after_no_answer (length old.hub.history) owing.core; ending = Some (end.Cut cause) }
   pub hub : new.hub ≡ old.hub
   pub addons : KeepsAddons old.addons new.addons
@@ -104,22 +103,23 @@ pub record Moment (J : Type 0) : Type 0 where
 -- A TURN OF A THREAD OR A WORKER
 module _ {J : Type 0} where
   -- one that has not ended made one entry of the history. It is the same thread with the same script, or the same worker, and the history has exactly the entries
-  -- that it made. A thread ended with calls left only where the next one was stopped
+  -- that it made. A thread ended with calls left only where the next one was stopped. A worker executes what it started in a later turn
   pub record ActorMakes (n : Numbers) (old : ActorRun J) (before : HubSeen) (new : ActorRun J) (after : HubSeen) : Type 0 where
     pub live : is_over old ≡ false
     pub one : AddsEntryOf (actor_of old) before after
     pub same : IsSameActor old new
     pub stands : IsActorOf n after new
     pub cut : is_over new ≡ true → StoppedSo n before (with_work_executed old)
+    pub unexecuted : HoldsNoneExecuted new
 
   -- it has ended, or it waits. Nothing changed, but that it executed the work that it had started
-  pub record ActorStays (old : ActorRun J) (before : HubSeen) (new : ActorRun J) (after : HubSeen) : Type 0 where
-    pub still : (is_over new ≡ true) ⊎ IsBlocked before.hub new
+  pub record ActorStays (n : Numbers) (old : ActorRun J) (before : HubSeen) (new : ActorRun J) (after : HubSeen) : Type 0 where
+    pub still : (is_over new ≡ true) ⊎ IsBlocked n before new
     pub executed : new ≡ with_work_executed old
     pub hub : after ≡ before
 
   abbrev pub ActorTurns : Numbers → ActorRun J → HubSeen → ActorRun J → HubSeen → Type 0
-  ActorTurns n old before new after = ActorMakes n old before new after ⊎ ActorStays old before new after
+  ActorTurns n old before new after = ActorMakes n old before new after ⊎ ActorStays n old before new after
 
   -- TURNS IN AN ORDER
   abbrev pub moment_of : RunAtHub → List (ActorRun J) → Moment J

@@ -1,3 +1,4 @@
 pub mod TakingPart
 pub mod GivenTurns
+pub mod ListTurns
 pub mod Stepping

@@ -16,6 +16,7 @@ use Rattle.env_loop.specs.RecordedRuns.{Run, FitsHub}
 use Rattle.env_loop.specs.declared.actor.ActorRun.{ActorRun}
 use Rattle.stepper.specs.TakingPart.{actors_of, round_of}
 use Rattle.stepper.specs.GivenTurns.{RunAtHub, EnvironmentTurns, IsIdle, WasGone, ActorTurns, Moment, TurnsThrough}
+use Rattle.stepper.specs.ListTurns.{LeadsLists}
 
 -- HOW FAR IT IS FROM ITS END
 -- the places of both lists that no entry has taken count two each, and one more counts that no end is owed. An entry takes a place and may pay an end; a call that
@@ -69,9 +70,10 @@ module _ {J : Type 0} where
     pub led : IsLedHub n before × IsLedHub n after
 
   -- TURNS IN AN ORDER
-  -- these turns led from one moment to another, and kept what all turns keep
+  -- these turns led from one moment to another, as the two lists show it, and kept what all turns keep
   pub record Steps (n : Numbers) (plans : List Plan) (order : List Actor) (old new : Moment J) : Type 0 where
     pub turns : TurnsThrough n plans order old new
+    pub lists : LeadsLists n plans order old new
     pub stands : Stands n new
     pub same : AllZip IsSameActor old.actors new.actors
     pub kept : RunKeeps n plans old.env new.env

@@ -2,6 +2,7 @@
 ghost use Rattle.std.specs.Prelude.{◌≡◌, ◌≤◌, length, map};
 ghost use Rattle.std.specs.List.{All};
 ghost use Rattle.napi_types.specs.plain.Lists.{one};
+ghost use Rattle.addon_trait.specs.Addons.{TellSamePlans};
 ghost use Rattle.env_loop.specs.ActorTurns.{IsActorAt};
 ghost use Rattle.stepper.specs.GivenTurns.{run_at, moment_of};
 ghost use Rattle.stepper.specs.Stepping.{Stands, Steps, RoundSteps};
@@ -26,8 +27,7 @@ pub(crate) fn give_turns<J: Job, N: Naming>(
     requires enough { env.old.core.env.addons ≤ length addons.old.items }
     requires threads { threads ≡ N.numbers.threads }
     requires scheduled { All (IsActorAt N.numbers) turns.now }
-    ensures count { length addons.new.items ≡ length addons.old.items }
-    ensures plans { map (λ b. plan b) addons.new.items ≡ map (λ b. plan b) addons.old.items }
+    ensures plans { TellSamePlans (λ b. plan b) addons.old.items addons.new.items }
     ensures went { Steps N.numbers (map (λ b. plan b) addons.old.items) turns.now
         (moment_of (run_at env.old hub.old (map (λ b. regs b) addons.old.items) (map (λ b. seen b) addons.old.items)) actors.old.items)
         (moment_of (run_at env.new hub.new (map (λ b. regs b) addons.new.items) (map (λ b. seen b) addons.new.items)) actors.new.items) }
@@ -50,8 +50,7 @@ fn give_turn<J: Job, N: Naming>(
     requires enough { env.old.core.env.addons ≤ length addons.old.items }
     requires threads { threads ≡ N.numbers.threads }
     requires scheduled { IsActorAt N.numbers who }
-    ensures count { length addons.new.items ≡ length addons.old.items }
-    ensures plans { map (λ b. plan b) addons.new.items ≡ map (λ b. plan b) addons.old.items }
+    ensures plans { TellSamePlans (λ b. plan b) addons.old.items addons.new.items }
     ensures went { Steps N.numbers (map (λ b. plan b) addons.old.items) (one who)
         (moment_of (run_at env.old hub.old (map (λ b. regs b) addons.old.items) (map (λ b. seen b) addons.old.items)) actors.old.items)
         (moment_of (run_at env.new hub.new (map (λ b. regs b) addons.new.items) (map (λ b. seen b) addons.new.items)) actors.new.items) }
@@ -77,8 +76,7 @@ pub(crate) fn round<J: Job, N: Naming>(
 ) -> bool
     requires stands { Stands N.numbers (moment_of (run_at env.old hub.old (map (λ b. regs b) addons.old.items) (map (λ b. seen b) addons.old.items)) actors.old.items) }
     requires enough { env.old.core.env.addons ≤ length addons.old.items }
-    ensures count { length addons.new.items ≡ length addons.old.items }
-    ensures plans { map (λ b. plan b) addons.new.items ≡ map (λ b. plan b) addons.old.items }
+    ensures plans { TellSamePlans (λ b. plan b) addons.old.items addons.new.items }
     ensures went { RoundSteps N.numbers (map (λ b. plan b) addons.old.items) result
         (moment_of (run_at env.old hub.old (map (λ b. regs b) addons.old.items) (map (λ b. seen b) addons.old.items)) actors.old.items)
         (moment_of (run_at env.new hub.new (map (λ b. regs b) addons.new.items) (map (λ b. seen b) addons.new.items)) actors.new.items) }

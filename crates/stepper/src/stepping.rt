@@ -2,13 +2,15 @@
 ghost use Rattle.std.specs.Prelude.{◌≡◌, ◌≤◌, ℕ, [], ◌++◌, length, map, drop, true, List};
 ghost use Rattle.std.specs.List.{All, AllZip};
 ghost use Rattle.napi_types.specs.declared.lists.Record.{Record};
+ghost use Rattle.addon_trait.specs.Addons.{TellSamePlans};
 ghost use Rattle.shared_hub.specs.HubStates.{hub_seen};
 ghost use Rattle.env_loop.specs.ActorTurns.{actor_of, is_over, IsActorAt, IsActorOf, IsFreshActor, IsSameActor};
 ghost use Rattle.env_loop.specs.OpenedAndGone.{IsOpenedRun, EndsWhole};
 ghost use Rattle.env_loop.specs.FollowedRuns.{GoesOnAt};
-ghost use Rattle.env_loop.specs.Recording.{AddonStates};
+ghost use Rattle.env_loop.specs.Recording.{states_of};
 ghost use Rattle.stepper.specs.TakingPart.{actors_of, turns_of, rounds_of};
 ghost use Rattle.stepper.specs.GivenTurns.{run_at, moment_of, TurnsThrough};
+ghost use Rattle.stepper.specs.ListTurns.{AroseWhole};
 
 use crate::order::{around_opening, threads_among};
 use crate::round::{give_turns, round};
@@ -38,8 +40,7 @@ pub fn step_all<J: Job, N: Naming>(
     requires fresh { All IsFreshActor actors.old.items }
     requires scheduled { All (IsActorAt N.numbers) schedule.now }
     requires enough { env.old.core.env.addons ≤ length addons.old.items }
-    ensures count { length addons.new.items ≡ length addons.old.items }
-    ensures plans { map (λ b. plan b) addons.new.items ≡ map (λ b. plan b) addons.old.items }
+    ensures plans { TellSamePlans (λ b. plan b) addons.old.items addons.new.items }
     ensures gone { env.new.core.env.phase ≡ Phase.Gone }
 
     // All entries arose by these turns, in this order: those of the schedule, and then those of so many rounds.
@@ -47,12 +48,17 @@ pub fn step_all<J: Job, N: Naming>(
         (moment_of (run_at env.old hub.old (map (λ b. regs b) addons.old.items) (map (λ b. seen b) addons.old.items)) actors.old.items)
         (moment_of (run_at env.new hub.new (map (λ b. regs b) addons.new.items) (map (λ b. seen b) addons.new.items)) actors.new.items) }
 
+    // The two lists show it: each turn added an entry of its actor to one of them, or none where the actor could not go on.
+    ensures arose { let before = states_of (λ b. regs b) (λ b. seen b) addons.old.items in
+        let left : Record = record { journal = env.new.core.journal; history = hub.new.history } in
+        AroseWhole N.numbers (map (λ b. plan b) addons.old.items) schedule.now env.old before actors.old.items left }
+
     // A run that was followed from its opening goes on, and came to its end in these two lists, in which nobody is lost. The addons that are no addons of the script keep their registers.
-    ensures goes { let before : AddonStates = record { registers = map (λ b. regs b) addons.old.items; seen = map (λ b. seen b) addons.old.items } in
-        let after : AddonStates = record { registers = map (λ b. regs b) addons.new.items; seen = map (λ b. seen b) addons.new.items } in
+    ensures goes { let before = states_of (λ b. regs b) (λ b. seen b) addons.old.items in
+        let after = states_of (λ b. regs b) (λ b. seen b) addons.new.items in
         GoesOnAt N.numbers (map (λ b. plan b) addons.old.items) env.old [] before env.new hub.new.history after }
-    ensures ended { let before : AddonStates = record { registers = map (λ b. regs b) addons.old.items; seen = map (λ b. seen b) addons.old.items } in
-        let after : AddonStates = record { registers = map (λ b. regs b) addons.new.items; seen = map (λ b. seen b) addons.new.items } in
+    ensures ended { let before = states_of (λ b. regs b) (λ b. seen b) addons.old.items in
+        let after = states_of (λ b. regs b) (λ b. seen b) addons.new.items in
         let left : Record = record { journal = env.new.core.journal; history = hub.new.history } in
         EndsWhole N.numbers (map (λ b. plan b) addons.old.items) env.old before left after }
     ensures others { let n = env.old.core.env.addons in

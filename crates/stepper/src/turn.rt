@@ -1,6 +1,7 @@
 //! One turn: of the environment, or of a thread or a worker.
 ghost use Rattle.std.specs.Prelude.{◌≡◌, ◌<◌, ◌≤◌, length, map};
 ghost use Rattle.std.specs.List.{All};
+ghost use Rattle.addon_trait.specs.Addons.{TellSamePlans};
 ghost use Rattle.env_loop.specs.ActorTurns.{IsActorOf, IsSameActor};
 ghost use Rattle.stepper.specs.GivenTurns.{run_at, ActorTurns};
 ghost use Rattle.stepper.specs.Stepping.{RunStands, EnvironmentSteps, ActorSteps};
@@ -18,8 +19,7 @@ pub(crate) fn environment_turn<J: Job, N: Naming>(
 ) -> bool
     requires stands { RunStands (run_at env.old hub.old (map (λ b. regs b) addons.old.items) (map (λ b. seen b) addons.old.items)) }
     requires enough { env.old.core.env.addons ≤ length addons.old.items }
-    ensures count { length addons.new.items ≡ length addons.old.items }
-    ensures plans { map (λ b. plan b) addons.new.items ≡ map (λ b. plan b) addons.old.items }
+    ensures plans { TellSamePlans (λ b. plan b) addons.old.items addons.new.items }
     ensures went { EnvironmentSteps N.numbers (map (λ b. plan b) addons.old.items) result
         (run_at env.old hub.old (map (λ b. regs b) addons.old.items) (map (λ b. seen b) addons.old.items))
         (run_at env.new hub.new (map (λ b. regs b) addons.new.items) (map (λ b. seen b) addons.new.items)) }

@@ -9,7 +9,6 @@ use Rattle.stepper.proofs.round.round.Goals as goal
 
 pub loop-place-init : goal.loop-place-init
 loop-place-init g c = record {
-  count = c.environment_turn.ensures.count;
   plans = c.environment_turn.ensures.plans;
   many = refl;
   went = environment-step _ _ _ _ _ _ c.requires.stands c.environment_turn.ensures.went;
@@ -30,7 +29,6 @@ loop-place-preserved g c =
     let there : c.loop-place.place < length (actors_of g.N.Naming.numbers) =
     omega (arith, inside, actors-length g.N.Naming.numbers, actors-count g.N.Naming.numbers c.loop-place.actors.items i.went.stands.actors.order) in
     record {
-      count = i.count;
       plans = i.plans;
       many = ap length s.actors ∙ length-set c.loop-place.actors.items c.loop-place.place s.actor ∙ i.many;
       went = steps-more _ _ _ _ _ _ _ _ _ i.went refl (actor-step _ _ _ _ _ i.went.stands inside s _) (ap (λ xs. actor.Env ∷ xs) (take_more (actors_of g.N.Naming.numbers) c.loop-place.place actor.Env there));

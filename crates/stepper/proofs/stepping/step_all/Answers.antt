@@ -1,8 +1,9 @@
 use Rattle.std.proofs.Common.{◌≡◌, ◌∙◌, true, sym, subst, suc}
 use Rattle.std.specs.List.{All}
+use Rattle.addon_trait.proofs.SamePlans.{plans-none, plans-then}
 use Rattle.env_loop.specs.ActorTurns.{is_over, IsActorAt}
 use Rattle.stepper.specs.GivenTurns.{Moment}
-use Rattle.stepper.proofs.Openings.{start-stands, gone-over, ended-at-last}
+use Rattle.stepper.proofs.Openings.{start-stands, gone-over, ended-at-last, arose-at-last}
 use Rattle.stepper.proofs.RoundSteps.{all-turns, all-front, all-back, schedule-steps, rounds-steps}
 use Rattle.stepper.proofs.stepping.step_all.Goals as goal
 
@@ -19,9 +20,8 @@ give_turns-requires-2-clause-scheduled g c κs within =
 
 pub rounds-init : goal.rounds-init
 rounds-init g c = record {
-  count = c.give_turns-2.ensures.count ∙ c.give_turns.ensures.count;
-  plans = c.give_turns-2.ensures.plans ∙ c.give_turns.ensures.plans;
-  went = (0, schedule-steps _ _ _ _ _ _ _ _ _ c.around_opening.ensures c.give_turns.ensures.went c.give_turns.ensures.plans c.give_turns-2.ensures.went);
+  plans = plans-then _ _ _ _ c.give_turns.ensures.plans c.give_turns-2.ensures.plans;
+  went = (0, schedule-steps _ _ _ _ _ _ _ _ _ c.around_opening.ensures c.give_turns.ensures.went c.give_turns.ensures.plans.same c.give_turns-2.ensures.went);
 }
 
 pub rounds-preserved : goal.rounds-preserved
@@ -29,9 +29,8 @@ rounds-preserved g c =
     let i = c.rounds.invariant in
     let k = c.round.ensures in
     record {
-      count = k.count ∙ i.count;
-      plans = k.plans ∙ i.plans;
-      went = (suc i.went.0, rounds-steps _ _ _ _ _ _ _ _ i.went.1 i.plans (k.went.steps c.if-round.false));
+      plans = plans-then _ _ _ _ i.plans k.plans;
+      went = (suc i.went.0, rounds-steps _ _ _ _ _ _ _ _ i.went.1 i.plans.same (k.went.steps c.if-round.false));
     }
 
 pub returns-then-round-clause-over : goal.returns-then-round-clause-over
@@ -43,3 +42,8 @@ pub returns-then-round-clause-ended : goal.returns-then-round-clause-ended
 returns-then-round-clause-ended g c =
     let was = c.round.ensures.went.was c.if-round.true in
     ended-at-last g.N.Naming.numbers _ _ _ _ c.requires.empty c.rounds.invariant.went.1.kept was.1 was.0 c.knows.ensures
+
+pub returns-then-round-clause-arose : goal.returns-then-round-clause-arose
+returns-then-round-clause-arose g c =
+    let was = c.round.ensures.went.was c.if-round.true in
+    arose-at-last g.N.Naming.numbers _ c.args.schedule.now c.rounds.invariant.went.0 _ _ _ c.requires.opened c.requires.empty c.rounds.invariant.went.1 was.1

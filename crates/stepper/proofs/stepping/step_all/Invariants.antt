@@ -1,6 +1,7 @@
-use Rattle.std.proofs.Common.{◌≡◌, ◌++◌, ℕ, List, Option, length, map}
+use Rattle.std.proofs.Common.{◌≡◌, ◌++◌, ℕ, List, Option, map}
 use Rattle.napi_types.specs.declared.duties.DueInfo.{DueInfo}
 use Rattle.napi_types.specs.declared.op.Op.{Op}
+use Rattle.addon_trait.specs.Addons.{TellSamePlans}
 use Rattle.stepper.specs.TakingPart.{turns_of, rounds_of}
 use Rattle.stepper.specs.GivenTurns.{run_at, moment_of}
 use Rattle.stepper.specs.Stepping.{Steps, measure}
@@ -12,12 +13,10 @@ invariant-rounds g l =
     let first_plans : List (Option (List (List Op))) = map (λ b. (goal.Addon-dyn g (b.vtable, b.value)).plan b.value) l.fn.addons.items in
     let first_regs : List (List ℕ) = map (λ b. (goal.Addon-dyn g (b.vtable, b.value)).regs b.value) l.fn.addons.items in
     let first_seen : List (List DueInfo) = map (λ b. (goal.Addon-dyn g (b.vtable, b.value)).seen b.value) l.fn.addons.items in
-    let plans : List (Option (List (List Op))) = map (λ b. (goal.Addon-dyn g (b.vtable, b.value)).plan b.value) l.addons.items in
     let regs : List (List ℕ) = map (λ b. (goal.Addon-dyn g (b.vtable, b.value)).regs b.value) l.addons.items in
     let seen : List (List DueInfo) = map (λ b. (goal.Addon-dyn g (b.vtable, b.value)).seen b.value) l.addons.items in
     record {
-      count : length l.addons.items ≡ length l.fn.addons.items;
-      plans : plans ≡ first_plans;
+      plans : TellSamePlans (λ b. (goal.Addon-dyn g (b.vtable, b.value)).plan b.value) l.fn.addons.items l.addons.items;
       went : (rounds : ℕ) × Steps g.N.Naming.numbers first_plans (turns_of l.schedule ++ rounds_of g.N.Naming.numbers rounds)
           (moment_of (run_at l.fn.env l.fn.hub first_regs first_seen) l.fn.actors.items) (moment_of (run_at l.env l.hub regs seen) l.actors.items);
     }
