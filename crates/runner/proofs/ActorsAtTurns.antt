@@ -21,10 +21,10 @@ use Rattle.runner.specs.ActorsAtTheLock.{GrewByEntries, AfterTurn, AfterBurst}
 use Rattle.runner.proofs.TakenTurns.{grew-on, stands-after}
 
 module _ {J : Type 0} where
-  after-turn-grew : (old new : ActorRun J) (s0 s1 : HubSeen) (t : ActorTurn) → AfterTurn old s0 t new s1 → GrewByEntries (actor_of old) s0 s1
-  after-turn-grew old new s0 s1 turn.Made a = (1, one-entry (actor_of old) s0 s1 a)
-  after-turn-grew old new s0 s1 turn.Blocked a = (0, subst (λ s. AddsEntriesOf (actor_of old) 0 s0 s) (sym a.0) (no-entries (actor_of old) s0))
-  after-turn-grew old new s0 s1 turn.Ended a = (0, subst (λ s. AddsEntriesOf (actor_of old) 0 s0 s) (sym a.0) (no-entries (actor_of old) s0))
+  after-turn-grew : (n : Numbers) (old new : ActorRun J) (s0 s1 : HubSeen) (t : ActorTurn) → AfterTurn n old s0 t new s1 → GrewByEntries (actor_of old) s0 s1
+  after-turn-grew n old new s0 s1 turn.Made a = (1, one-entry (actor_of old) s0 s1 a)
+  after-turn-grew n old new s0 s1 turn.Blocked a = (0, subst (λ s. AddsEntriesOf (actor_of old) 0 s0 s) (sym a.0) (no-entries (actor_of old) s0))
+  after-turn-grew n old new s0 s1 turn.Ended a = (0, subst (λ s. AddsEntriesOf (actor_of old) 0 s0 s) (sym a.0) (no-entries (actor_of old) s0))
 
   pub same-actor-of : (old new : ActorRun J) → IsSameActor old new → actor_of new ≡ actor_of old
   same-actor-of (run.OfThread s) (run.OfThread t) same = ap (λ k. actor.Thread k) same.number
@@ -41,22 +41,22 @@ module _ {J : Type 0} where
   }
 
   -- where it says that the actor has ended, it has, and holds no work
-  ended-over : (old new : ActorRun J) (s0 s1 : HubSeen) (t : ActorTurn) → AfterTurn old s0 t new s1 → t ≡ turn.Ended → is_over new ≡ true
-  ended-over old new s0 s1 turn.Made a is = absurd (cc is)
-  ended-over old new s0 s1 turn.Blocked a is = absurd (cc is)
-  ended-over old new s0 s1 turn.Ended a is = ap is_over a.1 ∙ a.2
+  ended-over : (n : Numbers) (old new : ActorRun J) (s0 s1 : HubSeen) (t : ActorTurn) → AfterTurn n old s0 t new s1 → t ≡ turn.Ended → is_over new ≡ true
+  ended-over n old new s0 s1 turn.Made a is = absurd (cc is)
+  ended-over n old new s0 s1 turn.Blocked a is = absurd (cc is)
+  ended-over n old new s0 s1 turn.Ended a is = ap is_over a.1 ∙ a.2
 
   -- A BURST
   -- one turn
-  pub burst-of-one : (n : Numbers) (old new : ActorRun J) (s0 s1 : HubSeen) (t : ActorTurn) → AfterTurn old s0 t new s1 → IsActorOf n s1 new → IsSameActor old new → IsLedHub n s1
+  pub burst-of-one : (n : Numbers) (old new : ActorRun J) (s0 s1 : HubSeen) (t : ActorTurn) → AfterTurn n old s0 t new s1 → IsActorOf n s1 new → IsSameActor old new → IsLedHub n s1
       → AfterBurst n old s0 t new s1
   burst-of-one n old new s0 s1 t a stands same known = record {
-    grew = after-turn-grew old new s0 s1 t a;
+    grew = after-turn-grew n old new s0 s1 t a;
     stands = stands;
     same = same;
     known = known;
-    over = ended-over old new s0 s1 t a;
-    idle = λ is. ended-actors-hold-none J n s1 new known.led stands (ended-over old new s0 s1 t a is);
+    over = ended-over n old new s0 s1 t a;
+    idle = λ is. ended-actors-hold-none J n s1 new known.led stands (ended-over n old new s0 s1 t a is);
   }
 
   -- and one more

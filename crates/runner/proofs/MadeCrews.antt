@@ -100,13 +100,16 @@ module _ {J : Type 0} where
       both [] = refl
       both (w ∷ ws) = ap (λ xs. fresh_run w.actor ∷ xs) (both ws)
 
-  -- there is one for each thread and each worker
+  -- there is one actor for each thread and each worker
+  pub all-actors-many : (n : Numbers) (actors : List (ActorRun J)) → map (λ a. actor_of a) actors ≡ actors_of n → length actors ≡ n.threads + n.workers
+  all-actors-many n actors order = sym (length-map actors (λ a. actor_of a)) ∙ ap length order ∙ actors-many n
+
+  -- and so is there one that waits
   pub idle-many : (n : Numbers) (idle : List FreshActor) (actors : List (ActorRun J)) → map (λ i. fresh_run i) idle ≡ actors
       → map (λ a. actor_of a) actors ≡ actors_of n → length idle ≡ n.threads + n.workers
   idle-many n idle actors is order =
       let runs : length idle ≡ length actors = sym (length-map idle (λ i. fresh_run {J = J} i)) ∙ ap length is in
-      let all : length actors ≡ length (actors_of n) = sym (length-map actors (λ a. actor_of a)) ∙ ap length order in
-      runs ∙ all ∙ actors-many n
+      runs ∙ all-actors-many n actors order
 
   all-wait : (n : Numbers) (h : TurnState) (k : ℕ) (crew : List Unstarted) → AreThere n k (map (λ a. actor_of a) (runs_of J crew))
       → All IsFreshActor (runs_of J crew) → map (λ w. w.pass) crew ≡ map (new_pass h.lock) (range_with_len k (length crew)) → AreUnstarted J n h k crew

@@ -21,10 +21,10 @@ GrewByEntries who old new = (count : ℕ) × AddsEntriesOf who count old new
 
 module _ {J : Type 0} where
   -- it added one entry, or nothing changed; where it says that the actor waits it does, and where it says that the actor has ended it had
-  abbrev pub AfterTurn : ActorRun J → HubSeen → ActorTurn → ActorRun J → HubSeen → Type 0
-  AfterTurn old before turn.Made new after = AddsEntryOf (actor_of old) before after
-  AfterTurn old before turn.Blocked new after = (after ≡ before) × (new ≡ old) × IsBlocked before.hub old
-  AfterTurn old before turn.Ended new after = (after ≡ before) × (new ≡ old) × (is_over old ≡ true)
+  abbrev pub AfterTurn : Numbers → ActorRun J → HubSeen → ActorTurn → ActorRun J → HubSeen → Type 0
+  AfterTurn n old before turn.Made new after = AddsEntryOf (actor_of old) before after
+  AfterTurn n old before turn.Blocked new after = (after ≡ before) × (new ≡ old) × IsBlocked n before old
+  AfterTurn n old before turn.Ended new after = (after ≡ before) × (new ≡ old) × (is_over old ≡ true)
 
   -- so many turns came one after another: the entries are this actor's, it stands as it did, and where it says that the actor has ended it has, and holds no work
   pub record AfterBurst (n : Numbers) (old : ActorRun J) (before : HubSeen) (t : ActorTurn) (new : ActorRun J) (after : HubSeen) : Type 0 where

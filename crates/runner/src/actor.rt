@@ -135,7 +135,7 @@ fn turn_under_the_lock<J: Job, N: Naming>(
 ) -> ActorTurn
     requires stands { IsActorOf N.numbers locked.old.state.value actor.old }
     requires ready { IsReady actor.old }
-    ensures turn { AfterTurn actor.old locked.old.state.value result actor.new locked.new.state.value }
+    ensures turn { AfterTurn N.numbers actor.old locked.old.state.value result actor.new locked.new.state.value }
     ensures stands { IsActorOf N.numbers locked.new.state.value actor.new }
     ensures actor { IsSameActor actor.old actor.new }
     ensures known { IsLedHub N.numbers locked.new.state.value }

@@ -1,15 +1,16 @@
 //! All actors of a run but the environment, with what they need to run on threads.
-ghost use Rattle.std.specs.Prelude.{◌≡◌, ◌≤◌, true, [], IfOk, length, map, drop, List};
+ghost use Rattle.std.specs.Prelude.{◌≡◌, ◌+◌, ◌≤◌, true, [], IfOk, length, map, drop, List};
 ghost use Rattle.std.specs.List.{All, AllZip};
+ghost use Rattle.addon_trait.specs.Addons.{TellSamePlans};
 ghost use Rattle.shared_hub.specs.HubStates.{hub_seen};
 ghost use Rattle.env_loop.specs.ActorTurns.{actor_of, actors_of, is_over, IsActorOf, IsFreshActor, IsSameActor};
 ghost use Rattle.env_loop.specs.OpenedAndGone.{IsOpenedRun, EndsWhole};
-ghost use Rattle.env_loop.specs.Recording.{AddonStates};
+ghost use Rattle.env_loop.specs.Recording.{states_of};
 ghost use Rattle.env_loop.specs.RunsOverRows.{IsReplayed};
 ghost use Rattle.env_loop.specs.declared.actor.ActorRun.{ActorRun};
 
 use crate::closing::close;
-use crate::making::{idle_actors, passes_for, places_for, with_passes, words_for};
+use crate::making::{Equipment, equipment_for, passes_for, with_passes};
 use crate::places::Places;
 use crate::running::{Left, run_in_scope};
 use crate::unstarted::{Opened, Unstarted};
@@ -54,23 +55,31 @@ impl<J: Job, N: Naming> Model for Crew<J, N> {
 
 impl<J: Job, N: Naming> Crew<J, N> {
     /// Puts a hub that opens under its lock, and takes the memory of all starts, of the joins and of the close. Where there is none the actors are
-    /// ended without an event.
+    /// ended without an event. With the environment there are at most 64 actors.
     pub fn new(
         alloc: Global,
         state: HubState<J, N>,
         actors: Vec<ActorRun<J>>,
     ) -> Result<Crew<J, N>, NoMemory>
         requires opens { state.history ≡ [] }
+        requires few { 1 + N.numbers.threads + N.numbers.workers ≤ 64 }
         requires order { map actor_of actors.items ≡ actors_of N.numbers }
         requires fresh { All IsFreshActor actors.items }
         ensures { IfOk result (λ crew. crew ≡ actors.items) }
     {
-        let idle = idle_actors(alloc, actors)?;
-        let words = words_for(alloc, idle.len())?;
-        let count = passes_for(&state, idle.len());
+        let count = passes_for(&state, actors.len());
+        let Ok(equipment) = equipment_for::<J, N>(alloc, actors) else {
+            let _history = state.into_history();
+            return Err(NoMemory);
+        };
+        let Equipment {
+            idle,
+            words,
+            unstarted,
+            places,
+        } = equipment;
         let (hub, passes) = Hub::new(alloc, state, count)?;
-        let (first, unstarted) = with_passes(alloc, idle, passes)?;
-        let places = places_for(alloc, unstarted.len())?;
+        let (first, unstarted) = with_passes(idle, passes, unstarted);
         Ok(Crew {
             alloc,
             hub,
@@ -96,13 +105,12 @@ impl<J: Job, N: Naming + Send + Sync> Crew<J, N> {
     ) -> Record
         requires opened { IsOpenedRun env }
         requires enough { env.core.env.addons ≤ length addons.old.items }
-        ensures count { length addons.new.items ≡ length addons.old.items }
-        ensures plans { map (λ b. plan b) addons.new.items ≡ map (λ b. plan b) addons.old.items }
+        ensures plans { TellSamePlans (λ b. plan b) addons.old.items addons.new.items }
         ensures led { IsReplayed N.numbers (hub_seen N.numbers result.history) }
 
         // What was followed from the opening came to its end in these two lists. The addons that are no addons of the script keep their registers.
-        ensures ended { let before : AddonStates = record { registers = map (λ b. regs b) addons.old.items; seen = map (λ b. seen b) addons.old.items } in
-            let after : AddonStates = record { registers = map (λ b. regs b) addons.new.items; seen = map (λ b. seen b) addons.new.items } in
+        ensures ended { let before = states_of (λ b. regs b) (λ b. seen b) addons.old.items in
+            let after = states_of (λ b. regs b) (λ b. seen b) addons.new.items in
             EndsWhole N.numbers (map (λ b. plan b) addons.old.items) env before result after }
         ensures others { let n = env.core.env.addons in
             drop n (map (λ b. regs b) addons.new.items) ≡ drop n (map (λ b. regs b) addons.old.items) }

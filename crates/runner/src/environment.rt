@@ -3,12 +3,13 @@ ghost use Rattle.std.specs.Prelude.{◌≡◌, ◌≤◌, true, false, [], lengt
 ghost use Rattle.std.specs.List.{All, AllZip};
 ghost use Rattle.napi_types.specs.scripts.Plans.{Plan};
 ghost use Rattle.napi_types.specs.declared.entry.Actor.TheVariants as actor;
+ghost use Rattle.addon_trait.specs.Addons.{TellSamePlans};
 ghost use Rattle.shared_hub.specs.KeptHubs.{IsLedHub};
 ghost use Rattle.hub_lock.specs.SeenTurns.{SamePass};
 ghost use Rattle.env_loop.specs.OpenedAndGone.{IsOpenedRun};
 ghost use Rattle.env_loop.specs.RecordedRuns.{Run, FitsHub};
 ghost use Rattle.env_loop.specs.FollowedRuns.{GoesOnAt};
-ghost use Rattle.env_loop.specs.Recording.{AddonStates};
+ghost use Rattle.env_loop.specs.Recording.{AddonStates, states_of};
 ghost use Rattle.env_loop.specs.Turns.{needs_hub};
 ghost use Rattle.runner.specs.AtPasses.{StandsBeside};
 ghost use Rattle.runner.specs.Environments.{HasGoneOnBeside};
@@ -35,7 +36,8 @@ const MOST_EVENTS: u32 = 64;
 /// The strays are threads and workers that no other thread runs. Each of them gets one turn whenever there is nothing to do, and all have ended in the end.
 /// Their jobs are executed here.
 ///
-/// An addon's `begin` of a duty of the hub runs while the turn is held, and so it has to be short. All else that addons do runs without it.
+/// An addon's `begin` of a duty of the hub runs while the turn is held, and so does its `note` of the reply to a shared call. Both have to be short. All else
+/// that addons do runs without it.
 pub fn run_env<J: Job, N: Naming, R: Wait>(
     rt: &R,
     hub: &Hub<J, N>,
@@ -51,15 +53,14 @@ pub fn run_env<J: Job, N: Naming, R: Wait>(
     requires opened { IsOpenedRun env.old }
     requires enough { env.old.core.env.addons ≤ length addons.old.items }
     requires strays { All (IsFreshStray N.numbers hub.now) strays.old.items }
-    ensures count { length addons.new.items ≡ length addons.old.items }
-    ensures plans { map (λ b. plan b) addons.new.items ≡ map (λ b. plan b) addons.old.items }
+    ensures plans { TellSamePlans (λ b. plan b) addons.old.items addons.new.items }
     ensures same { SamePass pass.old pass.new }
     ensures gone { env.new.core.env.phase ≡ Phase.Gone }
 
     // What was followed from the opening is followed still, over a history that the pass has seen. The addons that are no addons of the script keep
     // their registers.
-    ensures ran { let before : AddonStates = record { registers = map (λ b. regs b) addons.old.items; seen = map (λ b. seen b) addons.old.items } in
-        let after : AddonStates = record { registers = map (λ b. regs b) addons.new.items; seen = map (λ b. seen b) addons.new.items } in
+    ensures ran { let before = states_of (λ b. regs b) (λ b. seen b) addons.old.items in
+        let after = states_of (λ b. regs b) (λ b. seen b) addons.new.items in
         HasGoneOnBeside N.numbers (map (λ b. plan b) addons.old.items) env.old before pass.new env.new after }
     ensures others { let n = env.old.core.env.addons in
         drop n (map (λ b. regs b) addons.new.items) ≡ drop n (map (λ b. regs b) addons.old.items) }
@@ -91,12 +92,11 @@ fn turn<J: Job, N: Naming, R: Wait>(
     requires fits { StandsBeside N.numbers pass.old (FitsHub env.old) }
     requires enough { env.old.core.env.addons ≤ length addons.old.items }
     requires strays { All (IsStray N.numbers hub.now) strays.old.items }
-    ensures count { length addons.new.items ≡ length addons.old.items }
-    ensures plans { map (λ b. plan b) addons.new.items ≡ map (λ b. plan b) addons.old.items }
+    ensures plans { TellSamePlans (λ b. plan b) addons.old.items addons.new.items }
     ensures same { SamePass pass.old pass.new }
     ensures fits { StandsBeside N.numbers pass.new (FitsHub env.new) }
-    ensures ran { let before : AddonStates = record { registers = map (λ b. regs b) addons.old.items; seen = map (λ b. seen b) addons.old.items } in
-        let after : AddonStates = record { registers = map (λ b. regs b) addons.new.items; seen = map (λ b. seen b) addons.new.items } in
+    ensures ran { let before = states_of (λ b. regs b) (λ b. seen b) addons.old.items in
+        let after = states_of (λ b. regs b) (λ b. seen b) addons.new.items in
         let plans = map (λ b. plan b) addons.old.items in
         (first : Run) (start : AddonStates) → first.core.env.addons ≡ env.old.core.env.addons
         → HasGoneOnBeside N.numbers plans first start pass.old env.old before → HasGoneOnBeside N.numbers plans first start pass.new env.new after }
@@ -151,12 +151,11 @@ fn turn_at_the_lock<J: Job, N: Naming, R: Wait>(
     requires fits { StandsBeside N.numbers pass.old (FitsHub env.old) }
     requires needs { needs_hub env.old }
     requires enough { env.old.core.env.addons ≤ length addons.old.items }
-    ensures count { length addons.new.items ≡ length addons.old.items }
-    ensures plans { map (λ b. plan b) addons.new.items ≡ map (λ b. plan b) addons.old.items }
+    ensures plans { TellSamePlans (λ b. plan b) addons.old.items addons.new.items }
     ensures same { SamePass pass.old pass.new }
     ensures fits { StandsBeside N.numbers pass.new (FitsHub env.new) }
-    ensures ran { let before : AddonStates = record { registers = map (λ b. regs b) addons.old.items; seen = map (λ b. seen b) addons.old.items } in
-        let after : AddonStates = record { registers = map (λ b. regs b) addons.new.items; seen = map (λ b. seen b) addons.new.items } in
+    ensures ran { let before = states_of (λ b. regs b) (λ b. seen b) addons.old.items in
+        let after = states_of (λ b. regs b) (λ b. seen b) addons.new.items in
         let plans = map (λ b. plan b) addons.old.items in
         (first : Run) (start : AddonStates) → first.core.env.addons ≡ env.old.core.env.addons
         → HasGoneOnBeside N.numbers plans first start pass.old env.old before → HasGoneOnBeside N.numbers plans first start pass.new env.new after }
@@ -180,13 +179,12 @@ fn turn_under_the_lock<J: Job, N: Naming>(
     requires fits { FitsHub env.old locked.old.state.value }
     requires needs { needs_hub env.old }
     requires enough { env.old.core.env.addons ≤ length addons.old.items }
-    ensures count { length addons.new.items ≡ length addons.old.items }
-    ensures plans { map (λ b. plan b) addons.new.items ≡ map (λ b. plan b) addons.old.items }
+    ensures plans { TellSamePlans (λ b. plan b) addons.old.items addons.new.items }
     ensures grew { GrewByEntries actor.Env locked.old.state.value locked.new.state.value }
     ensures known { IsLedHub N.numbers locked.new.state.value }
     ensures fits { FitsHub env.new locked.new.state.value }
-    ensures goes { let before : AddonStates = record { registers = map (λ b. regs b) addons.old.items; seen = map (λ b. seen b) addons.old.items } in
-        let after : AddonStates = record { registers = map (λ b. regs b) addons.new.items; seen = map (λ b. seen b) addons.new.items } in
+    ensures goes { let before = states_of (λ b. regs b) (λ b. seen b) addons.old.items in
+        let after = states_of (λ b. regs b) (λ b. seen b) addons.new.items in
         GoesOnAt N.numbers (map (λ b. plan b) addons.old.items) env.old locked.old.state.value.history before env.new locked.new.state.value.history after }
     ensures addons { env.new.core.env.addons ≡ env.old.core.env.addons }
     ensures others { let n = env.old.core.env.addons in

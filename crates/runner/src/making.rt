@@ -1,5 +1,5 @@
 //! What a crew is made of: actors that may be let go, words, passes and places.
-ghost use Rattle.std.specs.Prelude.{◌≡◌, ◌+◌, ◌<◌, ◌^◌, [], ◌∷◌, IfOk, map, vec_len};
+ghost use Rattle.std.specs.Prelude.{◌≡◌, ◌+◌, ◌<◌, ◌≤◌, ◌^◌, [], ◌∷◌, IfOk, map, vec_len, vec_capacity};
 ghost use Rattle.std.specs.List.{All};
 ghost use Rattle.env_loop.specs.ActorTurns.{fresh_run, HoldsNoWork, IsFreshActor};
 ghost use Rattle.runner.specs.Crews.{HasPlaces};
@@ -67,24 +67,25 @@ pub(crate) fn passes_for<J: Job, N: Naming>(state: &HubState<J, N>, actors: usiz
     1 + actors as u32
 }
 
-/// The environment's pass, which is the first, and the actors with the others, in their order.
+/// The environment's pass, which is the first, and the actors with the others, in their order, in the places that are there for them.
 pub(crate) fn with_passes(
-    alloc: Global,
     actors: Vec<FreshActor>,
     passes: Vec<Pass>,
-) -> Result<(Pass, Vec<Unstarted>), NoMemory>
-    requires { vec_len passes ≡ 1 + vec_len actors }
-    ensures actors { IfOk result (λ made. map (λ w. w.actor) made.1.items ≡ actors.items) }
-    ensures passes { IfOk result (λ made. made.0 ∷ map (λ w. w.pass) made.1.items ≡ passes.items) }
+    mut unstarted: Vec<Unstarted>,
+) -> (Pass, Vec<Unstarted>)
+    requires passes { vec_len passes ≡ 1 + vec_len actors }
+    requires none { unstarted.items ≡ [] }
+    requires room { vec_len actors ≤ vec_capacity unstarted }
+    ensures actors { map (λ w. w.actor) result.1.items ≡ actors.items }
+    ensures passes { result.0 ∷ map (λ w. w.pass) result.1.items ≡ passes.items }
 {
-    let mut unstarted = Vec::with_capacity(alloc, actors.len())?;
     let mut passes = passes.into_iter();
     let first = passes.next().unwrap();
     for actor in actors {
         let pass = passes.next().unwrap();
         unstarted.push_reserved(Unstarted { actor, pass });
     }
-    Ok((first, unstarted))
+    (first, unstarted)
 }
 
 /// Places for so many actors, and for one pass more.
@@ -102,5 +103,38 @@ pub(crate) fn places_for<J: Job, N: Naming>(
         children,
         strays,
         passes,
+    })
+}
+
+/// What a crew takes of memory beside its hub: its actors, a word for each, places for them with their passes, and places of what comes of them.
+pub(crate) struct Equipment<J: Job, N: Naming> {
+    pub(crate) idle: Vec<FreshActor>,
+    pub(crate) words: Vec<AtomicU64>,
+    pub(crate) unstarted: Vec<Unstarted>,
+    pub(crate) places: Places<J, N>,
+}
+
+/// Takes it for these actors. Where there is no memory they are ended without an event.
+pub(crate) fn equipment_for<J: Job, N: Naming>(
+    alloc: Global,
+    actors: Vec<ActorRun<J>>,
+) -> Result<Equipment<J, N>, NoMemory>
+    requires fresh { All IsFreshActor actors.items }
+    requires few { vec_len actors < 2 ^ 32 }
+    ensures idle { IfOk result (λ e. map (λ i. fresh_run i) e.idle.items ≡ actors.items) }
+    ensures words { IfOk result (λ e. vec_len e.words ≡ vec_len e.idle) }
+    ensures none { IfOk result (λ e. e.unstarted.items ≡ []) }
+    ensures room { IfOk result (λ e. vec_len e.idle ≤ vec_capacity e.unstarted) }
+    ensures places { IfOk result (λ e. HasPlaces (vec_len e.idle) e.places) }
+{
+    let idle = idle_actors(alloc, actors)?;
+    let words = words_for(alloc, idle.len())?;
+    let unstarted = Vec::with_capacity(alloc, idle.len())?;
+    let places = places_for(alloc, idle.len())?;
+    Ok(Equipment {
+        idle,
+        words,
+        unstarted,
+        places,
     })
 }

@@ -1,6 +1,7 @@
 //! The run of all actors on threads of a scope.
 ghost use Rattle.std.specs.Prelude.{◌≡◌, ◌≤◌, length, map, drop};
-ghost use Rattle.env_loop.specs.Recording.{AddonStates};
+ghost use Rattle.addon_trait.specs.Addons.{TellSamePlans};
+ghost use Rattle.env_loop.specs.Recording.{states_of};
 ghost use Rattle.runner.specs.Crews.{IsCrew, HasPlaces, IsLeft};
 
 use crate::environment::run_env;
@@ -43,10 +44,9 @@ pub(crate) fn run_in_scope<J: Job, N: Naming + Send + Sync, R: Threads + Wait + 
     requires words { length words.now ≡ length crew.items }
     requires room { HasPlaces (length crew.items) places }
     requires enough { env.core.env.addons ≤ length addons.items }
-    ensures count { length result.addons.items ≡ length addons.items }
-    ensures plans { map (λ b. plan b) result.addons.items ≡ map (λ b. plan b) addons.items }
-    ensures left { let before : AddonStates = record { registers = map (λ b. regs b) addons.items; seen = map (λ b. seen b) addons.items } in
-        let after : AddonStates = record { registers = map (λ b. regs b) result.addons.items; seen = map (λ b. seen b) result.addons.items } in
+    ensures plans { TellSamePlans (λ b. plan b) addons.items result.addons.items }
+    ensures left { let before = states_of (λ b. regs b) (λ b. seen b) addons.items in
+        let after = states_of (λ b. regs b) (λ b. seen b) result.addons.items in
         IsLeft J N.numbers hub.now crew.items (map (λ b. plan b) addons.items) env before result.env result.passes.items after }
     ensures others { let n = env.core.env.addons in
         drop n (map (λ b. regs b) result.addons.items) ≡ drop n (map (λ b. regs b) addons.items) }
@@ -59,10 +59,9 @@ pub(crate) fn run_in_scope<J: Job, N: Naming + Send + Sync, R: Threads + Wait + 
             requires words { length words.now ≡ length crew.items }
             requires room { HasPlaces (length crew.items) places }
             requires enough { env.core.env.addons ≤ length addons.items }
-            ensures count { length result.addons.items ≡ length addons.items }
-            ensures plans { map (λ b. plan b) result.addons.items ≡ map (λ b. plan b) addons.items }
-            ensures left { let before : AddonStates = record { registers = map (λ b. regs b) addons.items; seen = map (λ b. seen b) addons.items } in
-                let after : AddonStates = record { registers = map (λ b. regs b) result.addons.items; seen = map (λ b. seen b) result.addons.items } in
+            ensures plans { TellSamePlans (λ b. plan b) addons.items result.addons.items }
+            ensures left { let before = states_of (λ b. regs b) (λ b. seen b) addons.items in
+                let after = states_of (λ b. regs b) (λ b. seen b) result.addons.items in
                 IsLeft J N.numbers hub.entry.now crew.items (map (λ b. plan b) addons.items) env before result.env result.passes.items after }
             ensures others { let n = env.core.env.addons in
                 drop n (map (λ b. regs b) result.addons.items) ≡ drop n (map (λ b. regs b) addons.items) }
@@ -91,10 +90,9 @@ fn run_all<'s, E, J: Job + 's, N: Naming + Send + Sync + 's, R: Threads + Wait +
     requires words { length words.now ≡ length crew.items }
     requires room { HasPlaces (length crew.items) places }
     requires enough { env.core.env.addons ≤ length addons.items }
-    ensures count { length result.addons.items ≡ length addons.items }
-    ensures plans { map (λ b. plan b) result.addons.items ≡ map (λ b. plan b) addons.items }
-    ensures left { let before : AddonStates = record { registers = map (λ b. regs b) addons.items; seen = map (λ b. seen b) addons.items } in
-        let after : AddonStates = record { registers = map (λ b. regs b) result.addons.items; seen = map (λ b. seen b) result.addons.items } in
+    ensures plans { TellSamePlans (λ b. plan b) addons.items result.addons.items }
+    ensures left { let before = states_of (λ b. regs b) (λ b. seen b) addons.items in
+        let after = states_of (λ b. regs b) (λ b. seen b) result.addons.items in
         IsLeft J N.numbers hub.now crew.items (map (λ b. plan b) addons.items) env before result.env result.passes.items after }
     ensures others { let n = env.core.env.addons in
         drop n (map (λ b. regs b) result.addons.items) ≡ drop n (map (λ b. regs b) addons.items) }

@@ -1,4 +1,5 @@
 use Rattle.std.proofs.Common.{◌∙◌, refl, sym, rules}
+use Rattle.addon_trait.proofs.SamePlans.{plans-none, plans-then}
 use Rattle.runner.proofs.EnvironmentAtTheLock.{opened-has-run, has-run-then, others-then}
 use Rattle.runner.proofs.SameStrays.{same-pass-none, same-pass-then, same-strays-none, same-strays-then, ended-strays-then, fresh-strays-are}
 use Rattle.runner.proofs.environment.run_env.Goals as goal
@@ -9,8 +10,7 @@ loop-init g c =
       tt,
       tt,
       record {
-        count = refl;
-        plans = refl;
+        plans = plans-none _ _;
         same = same-pass-none c.args.pass.now c.requires.free;
         ran = opened-has-run g.N.Naming.numbers _ c.args.pass.now c.args.env.now _ c.requires.opened c.requires.own;
         addons = refl;
@@ -27,10 +27,9 @@ loop-preserved g c =
       tt,
       tt,
       record {
-        count = t.count ∙ i.count;
-        plans = t.plans ∙ i.plans;
+        plans = plans-then _ _ _ _ i.plans t.plans;
         same = same-pass-then c.args.pass.now c.loop.pass c.turn.new.pass i.same t.same;
-        ran = has-run-then g.N.Naming.numbers _ _ c.args.env.now c.loop.env c.turn.new.env c.loop.pass c.turn.new.pass _ _ _ i.plans (sym i.addons) t.ran i.ran;
+        ran = has-run-then g.N.Naming.numbers _ _ c.args.env.now c.loop.env c.turn.new.env c.loop.pass c.turn.new.pass _ _ _ i.plans.same (sym i.addons) t.ran i.ran;
         addons = t.addons ∙ i.addons;
         others = others-then _ _ _ _ _ i.addons i.others t.others;
         strays = t.strays;
@@ -41,7 +40,7 @@ loop-preserved g c =
 pub returns-then-turn-clause-ran : goal.returns-then-turn-clause-ran
 returns-then-turn-clause-ran g c =
     let i = c.loop.invariant.2 in
-    has-run-then g.N.Naming.numbers _ _ c.args.env.now c.loop.env c.turn.new.env c.loop.pass c.turn.new.pass _ _ _ i.plans (sym i.addons) c.turn.ensures.ran i.ran
+    has-run-then g.N.Naming.numbers _ _ c.args.env.now c.loop.env c.turn.new.env c.loop.pass c.turn.new.pass _ _ _ i.plans.same (sym i.addons) c.turn.ensures.ran i.ran
 
 pub returns-then-turn-clause-strays : goal.returns-then-turn-clause-strays
 returns-then-turn-clause-strays g c = search (rules, ended-strays-then)

@@ -31,7 +31,7 @@ pub returns-in-NeedsHub-clause-ran : goal.returns-in-NeedsHub-clause-ran
 returns-in-NeedsHub-clause-ran g c = λ first start same at.
     let k = c.in-NeedsHub.ensures in
     let t = c.turn_at_the_lock-turn.ensures in
-    has-run-then g.N.Naming.numbers _ _ first c.local_turn.new.self c.turn_at_the_lock-turn.new.env c.args.pass.now c.turn_at_the_lock-turn.new.pass start _ _ k.plans (same ∙ sym k.addons) t.ran
+    has-run-then g.N.Naming.numbers _ _ first c.local_turn.new.self c.turn_at_the_lock-turn.new.env c.args.pass.now c.turn_at_the_lock-turn.new.pass start _ _ k.plans.same (same ∙ sym k.addons) t.ran
     (has-run-alone g.N.Naming.numbers _ first c.args.env.now c.local_turn.new.self c.args.pass.now start _ _ same at k.goes k.fits)
 
 pub returns-in-NeedsHub-clause-others : goal.returns-in-NeedsHub-clause-others
