@@ -9,18 +9,19 @@ use Rattle.napi_types.specs.declared.script.Wrong.TheVariants as wrong
 use Rattle.napi_types.specs.plain.Edge.{HasRisen}
 use Rattle.napi_types.specs.scripts.Script.{IsScript, IsWrong, script}
 use Rattle.napi_types.specs.scripts.ScriptReading.{IsJson, IsNoJson}
-use Rattle.script_host.specs.Reading.{longest_source}
-use Rattle.script_host.specs.Host.{Gave, GaveScript, GaveTooMuch, AreTooLong, AreRefused, HasTooManyAddons, LacksSchedule, AreRunnable, is_met, CausesOfReading}
+use Rattle.outside.specs.Ends.{Input}
+use Rattle.outside.specs.Given.{is_met, Gave, GaveScript, GaveTooMuch, CausesOfReading}
+use Rattle.outside.specs.Reading.{longest_source}
+use Rattle.outside.specs.Words.{command_of, line_status, reads}
+use Rattle.outside.specs.declared.commands.Command.{Command}
+use Rattle.outside.specs.declared.commands.Command.TheVariants as command
+use Rattle.outside.specs.declared.line.Line.{Line}
+use Rattle.outside.specs.declared.line.Line.TheVariants as line
+use Rattle.outside.specs.declared.scripts.Demand.{Demand}
+use Rattle.outside.specs.declared.scripts.Demand.TheVariants as demand
+use Rattle.script_run.specs.Load.{load_script}
+use Rattle.script_host.specs.Host.{AreTooLong, AreRefused, HasTooManyAddons, LacksSchedule, AreRunnable}
 use Rattle.script_host.specs.Host.{IsScriptOf, IsAskedFor, IsTooLong, IsRefused, IsRunnable, Causes, CausesOfLoad}
-use Rattle.script_host.specs.Outside.{Input}
-use Rattle.script_host.specs.Load.{load_script}
-use Rattle.script_host.specs.Words.{command_of, line_status, reads}
-use Rattle.script_host.specs.declared.top_call.Demand.{Demand}
-use Rattle.script_host.specs.declared.top_call.Demand.TheVariants as demand
-use Rattle.script_host.specs.declared.words.Command.{Command}
-use Rattle.script_host.specs.declared.words.Command.TheVariants as command
-use Rattle.script_host.specs.declared.words.Line.{Line}
-use Rattle.script_host.specs.declared.words.Line.TheVariants as line
 
 -- what a source gave up to its end is all that it had to give
 all-given : (input : Input) (bytes given : List ℕ) → Gave input given → input.before ≡ Some bytes → given ≡ bytes
@@ -143,7 +144,7 @@ module _ (d : Demand) (input : Input) (handed : ℕ) (bytes : List ℕ) (has : i
   memory-alone fit line.TooLong cause = absurd (long-told cause fit.short)
 
 -- of a load no line tells but that it is refused, or that there was no memory
-load-line : (d : Demand) (l : Line) (s : Script) (handed : ℕ) → CausesOfLoad d l s handed → (line_status l ≡ 3) ⊎ (line_status l ≡ 6)
+pub load-line : (d : Demand) (l : Line) (s : Script) (handed : ℕ) → CausesOfLoad d l s handed → (line_status l ≡ 3) ⊎ (line_status l ≡ 6)
 load-line demand.Schedule l s handed cause = let is : line_status l ≡ 3 = ap line_status cause in inl is
 load-line demand.Nothing line.Usage s handed cause = absurd cause
 load-line demand.Nothing line.NotJson s handed cause = absurd cause

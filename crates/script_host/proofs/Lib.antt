@@ -1,12 +1,7 @@
+pub mod Chosen
 pub mod Complete
-pub mod EndedActors
+pub mod Concluding
 pub mod Hosts
-pub mod LoadLists
-pub mod Loading
-pub mod Numerals
 pub mod OneKind
-pub mod Pieces
 pub mod Small
 pub mod SmallActors
-pub mod SmallLoad
-pub mod Telling

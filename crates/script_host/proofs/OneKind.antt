@@ -9,12 +9,13 @@ use Rattle.serde_json.specs.Read.{read}
 use Rattle.napi_types.specs.declared.script.Script.{Script}
 use Rattle.napi_types.specs.scripts.Script.{IsScript, script}
 use Rattle.napi_types.specs.scripts.ScriptReading.{IsJson, Reading}
-use Rattle.script_host.specs.Reading.{longest_source}
-use Rattle.script_host.specs.Host.{AreTooLong, AreRefused, AreRunnable, IsTooLong, IsRefused, IsRunnable, is_met}
-use Rattle.script_host.specs.Load.{load_script}
-use Rattle.script_host.specs.declared.top_call.Demand.{Demand}
-use Rattle.script_host.specs.declared.words.Command.{Command}
-use Rattle.script_host.specs.declared.words.Command.TheVariants as command
+use Rattle.outside.specs.Given.{is_met}
+use Rattle.outside.specs.Reading.{longest_source}
+use Rattle.outside.specs.declared.commands.Command.{Command}
+use Rattle.outside.specs.declared.commands.Command.TheVariants as command
+use Rattle.outside.specs.declared.scripts.Demand.{Demand}
+use Rattle.script_run.specs.Load.{load_script}
+use Rattle.script_host.specs.Host.{AreTooLong, AreRefused, AreRunnable, IsTooLong, IsRefused, IsRunnable}
 use Rattle.script_host.proofs.Complete.{no-refused}
 
 module _ (d : Demand) (bytes : List ℕ) (handed : ℕ) (short : length bytes ≤ longest_source) where

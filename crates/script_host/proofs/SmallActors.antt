@@ -1,9 +1,8 @@
 -- A script has sixteen threads and eight workers at most, the operations of its threads are such as threads make, and the words of its schedule are its actors.
-use Rattle.std.proofs.Common.{◌≡◌, ◌≤◌, ◌<◌, ◌^◌, ◌+◌, ◌==◌, ℕ, suc, Bool, true, false, nat_lt, cond, List, [], ◌∷◌, length, Option, Some, None, option_map, Ok, Err, refl, ap, sym, subst, ◌∙◌, arith}
+use Rattle.std.proofs.Common.{◌≡◌, ◌≤◌, ◌<◌, ◌^◌, ◌+◌, ◌==◌, ℕ, suc, Bool, true, false, nat_lt, cond, List, [], ◌∷◌, length, Option, Some, None, option_map, Ok, refl, ap, sym, subst, ◌∙◌, arith}
 use Rattle.std.specs.List.{All}
 use Rattle.std.proofs.lemmas.List.Elements.{All-nil, All-cons}
-use Rattle.std.specs.declared.result.Result.{Result}
-use Rattle.std.specs.Prelude.{codes, bytes_eq, option_and_then, IfOk, IfSome}
+use Rattle.std.specs.Prelude.{codes, bytes_eq, option_and_then, IfSome}
 use Rattle.serde_json.specs.Data.{Data, string, array, Items, item, no_items}
 use Rattle.serde_json.specs.Events.{items_len}
 use Rattle.serde_json.specs.Find.{get}
@@ -15,7 +14,7 @@ use Rattle.napi_types.specs.declared.script.LimitName.TheVariants as limit
 use Rattle.napi_types.specs.declared.script.Place.{Place}
 use Rattle.napi_types.specs.declared.script.Place.TheVariants as place
 use Rattle.napi_types.specs.declared.script.Script.{Script}
-use Rattle.napi_types.specs.scripts.Script.{IsScript, workers_in, threads_in}
+use Rattle.napi_types.specs.scripts.Script.{workers_in, threads_in}
 use Rattle.napi_types.specs.scripts.ScriptArguments.{whole, mode_number, release_number, text_argument}
 use Rattle.napi_types.specs.scripts.ScriptOperations.{named, operation_name, thread_acquire, thread_release, thread_call, thread_operation_named, thread_operation}
 use Rattle.napi_types.specs.scripts.ScriptReading.{Reading, formed, list_at, every, within_limit}
@@ -23,10 +22,12 @@ use Rattle.napi_types.specs.scripts.ScriptSchedule.{small_number, number_below, 
 use Rattle.napi_types.specs.scripts.ScriptThreads.{thread_operation_at, thread_at, word_at, schedule_in}
 use Rattle.env_loop.specs.ActorRuns.{IsOperationOfThread}
 use Rattle.env_loop.specs.ActorTurns.{IsActorAt}
-use Rattle.script_host.specs.Host.{IsSmall}
-use Rattle.script_host.specs.Loading.{hub_numbers}
-use Rattle.script_host.specs.ScriptActors.{IsThreadScript}
-use Rattle.script_host.specs.declared.words.Line.{Line}
+use Rattle.outside.specs.Ends.{Input}
+use Rattle.outside.specs.Given.{GaveDemanded}
+use Rattle.outside.specs.declared.scripts.Demand.{Demand}
+use Rattle.script_run.specs.Loading.{hub_numbers}
+use Rattle.script_run.specs.Runs.{IsSmall}
+use Rattle.script_run.specs.ScriptActors.{IsThreadScript}
 use Rattle.script_host.proofs.Small.{Both, both, within_limit-limit, list-short, ScriptParts, parts-of}
 
 -- LISTS
@@ -222,10 +223,8 @@ small-script d s parts texts =
       };
     }
 
-pub small-of : (bytes : List ℕ) (s counted : Script) (r : Result Script Line) → IsScript bytes s → counted ≡ s → IfOk r (λ t. t ≡ counted)
-    → length counted.texts < 2 ^ 32 → IfOk r IsSmall
-small-of bytes s counted (Ok t) is same again texts =
-    let P : Script → Type 0 = λ x. ScriptParts is.0 x in
-    let T : Script → Type 0 = λ x. length x.texts < 2 ^ 32 in
-    small-script is.0 t (subst P (sym (again ∙ same)) (parts-of is.0 s is.2)) (subst T (sym again) texts)
-small-of bytes s counted (Err line) is same again texts = tt
+-- and so is one that a source gave
+pub small-given : (d : Demand) (input : Input) (handed : ℕ) (s : Script) → GaveDemanded d input handed s → IsSmall s
+small-given d input handed s given =
+    let is = given.gave.is_script in
+    small-script is.0 s (parts-of is.0 s is.2) given.texts

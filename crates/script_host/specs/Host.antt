@@ -1,118 +1,24 @@
--- What the top call does: the run that it leaves, the text that it writes, and the refusals that stand in place of a text.
-use Rattle.std.specs.Prelude.{◌≡◌, ◌≤◌, ◌<◌, ◌^◌, ℕ, Bool, true, false, List, [], ◌∷◌, ◌++◌, length, map, drop, slice_get, Some, Option, None, is_some, IfSome, IsTrue, ◌==◌, ◌⊎◌, ⊤}
-use Rattle.std.specs.List.{list_any}
-use Rattle.std.specs.Io.KnownBytes.{prepend_known, append_known, IsAtEnd}
-use Rattle.napi_types.specs.declared.call.Ask.{Ask}
-use Rattle.napi_types.specs.declared.duties.DueInfo.{DueInfo}
-use Rattle.napi_types.specs.declared.entry.Duty.TheVariants as duty
+-- What the top calls do: the script that they run, and why they write a line in place of a text.
+use Rattle.std.specs.Prelude.{◌≡◌, ◌≢◌, ◌≤◌, ◌<◌, ◌↔◌, ℕ, true, false, List, length, Some, Option, None, Result, Ok, Err, ◌⊎◌, ⊤}
 use Rattle.napi_types.specs.declared.lists.Record.{Record}
-use Rattle.napi_types.specs.declared.op.Op.{Op}
 use Rattle.napi_types.specs.declared.script.Script.{Script}
 use Rattle.napi_types.specs.declared.script.Wrong.{Wrong}
-use Rattle.napi_types.specs.declared.script.Wrong.TheVariants as wrong
-use Rattle.napi_types.specs.plain.Edge.{HasRisen, TookFront}
-use Rattle.napi_types.specs.plain.Weave.{weave, RisesBetween}
-use Rattle.napi_types.specs.scripts.Plans.{Plan, plan_of, registers_of}
-use Rattle.napi_types.specs.scripts.Script.{IsScript, IsWrong, HasWrongShape}
+use Rattle.napi_types.specs.plain.Edge.{HasRisen}
+use Rattle.napi_types.specs.scripts.Script.{IsScript, IsWrong}
 use Rattle.napi_types.specs.scripts.ScriptReading.{IsNoJson}
-use Rattle.napi_types.specs.scripts.Summary.{summary}
-use Rattle.napi_types.specs.scripts.Text.{text}
-use Rattle.napi_types.specs.hub.Actors.{Free, Over, worker_along}
-use Rattle.napi_types.specs.runs.Begins.{begun_along, of_addon}
-use Rattle.napi_types.specs.runs.Parting.{IsParted}
-use Rattle.napi_types.specs.runs.Setting.{Setting, EndsBy, opening_of, final_registers}
-use Rattle.napi_types.specs.all_runs.CollectionLaw.{KeepsReached}
-use Rattle.napi_types.specs.all_runs.Counts.{Once, TellsStarts}
-use Rattle.napi_types.specs.all_runs.ItemOrder.{CountItems}
-use Rattle.napi_types.specs.all_runs.Order.{TicketsCount, HooksFall, FinalsRise}
-use Rattle.addon_trait.specs.Addons.{seen_of}
-use Rattle.script_host.specs.Reading.{longest_source, GaveTooMany}
-use Rattle.env_loop.specs.Recording.{AgreesWhereTold}
-use Rattle.script_host.specs.Load.{load_script}
-use Rattle.script_host.specs.Loading.{told_plans, setting_with}
-use Rattle.script_host.specs.Outside.{Input, Output}
-use Rattle.script_host.specs.ScriptActors.{AreActors, MadeItsScript}
-use Rattle.script_host.specs.Words.{command_of, reads}
-use Rattle.script_host.specs.declared.top_call.Demand.{Demand}
-use Rattle.script_host.specs.declared.top_call.Demand.TheVariants as demand
-use Rattle.script_host.specs.declared.words.Command.{Command}
-use Rattle.script_host.specs.declared.words.Command.TheVariants as command
-use Rattle.script_host.specs.declared.words.Line.{Line}
-use Rattle.script_host.specs.declared.words.Line.TheVariants as line
-
--- THE RUN
--- a run of the script, with these addons handed in
-abbrev pub setting_of : Script → List Plan → Setting
-setting_of script handed = setting_with (told_plans script.addons handed) (length script.texts) (length script.threads) script.workers
-
--- the two lists are the journal and the history of a run of the script that ends in `gone`, the journal in the order of its places; each collection of the
--- run keeps exactly what its roots reach; and the registers of each addon that tells its plan are the run's
-pub record IsRunOf (script : Script) (handed : List Plan) (left : Record) (registers : List (List ℕ)) (seens seens_after : List (List DueInfo)) : Type 0 where
-  pub asks : List Ask
-  pub ended : EndsBy (setting_of script handed) asks (weave left.journal left.history)
-  pub collected : KeepsReached (opening_of (setting_of script handed)) asks (weave left.journal left.history)
-  pub rises : RisesBetween 0 (length left.history) left.journal
-  pub parted : IsParted (opening_of (setting_of script handed)) asks left.journal left.history
-  pub agrees : (addon : ℕ) → addon < length script.addons → AgreesWhereTold (plan_of (setting_of script handed).plans addon)
-      (registers_of registers addon) (registers_of (final_registers (setting_of script handed) asks (weave left.journal left.history)) addon)
-  -- each addon that was handed in has seen, after what it had seen before, exactly the duties whose frames of its began in the run, in their order, each with
-  -- its gifts
-  pub seen : (addon : ℕ) → seen_of seens_after addon
-      ≡ seen_of seens addon ++ of_addon addon (begun_along (opening_of (setting_of script handed)) asks (weave left.journal left.history))
-  -- tickets count from 1 in the order of registration; hooks began in the reverse of the order in which they were added, and what began after `finals` in the order
-  -- of registration
-  pub counted : TicketsCount (weave left.journal left.history)
-  pub hooks : HooksFall (weave left.journal left.history)
-  pub finals : FinalsRise (weave left.journal left.history)
-  -- each completion, item, function's finalizer, finalizer and hook that was made and not withdrawn began exactly once, one that was withdrawn never, and no other
-  -- duty began; none was made twice, and only an accepted `remove_wrap`, `set_instance_data` or `remove_env_cleanup_hook` withdrew one
-  pub once : Once (weave left.journal left.history)
-  -- the items of each thread-safe function count from 1 as they were accepted, and began in that order
-  pub items : (f : ℕ) → CountItems f (weave left.journal left.history)
-  -- the completion of each work began as cancelled exactly where the work never started
-  pub completed : (n : ℕ) → TellsStarts (duty.Work n) (weave left.journal left.history)
-  -- the entries of each thread are the calls of its script, in their order, each once, and then its end. It ended cut only where the next call had no room, and
-  -- as full exactly there, or might want memory
-  pub threads : (t : ℕ) (operations : List Op) → slice_get script.threads t ≡ Some operations → MadeItsScript (setting_of script handed) t operations left.history
-  -- each worker started and finished works by turns, and then ended
-  pub workers : (w : ℕ) → w < script.workers → worker_along w (Some Free) left.history ≡ Some Over
-
--- what contracts see of the addons that were handed in: their plans, their registers, and what each has seen
-pub record Handed : Type 0 where
-  pub plans : List Plan
-  pub registers : List (List ℕ)
-  pub seen : List (List DueInfo)
-
--- the same of a list of addons, of which these tell the plan, the registers and what was seen
-abbrev pub handed_in : {A : Type 0} → (A → Plan) → (A → List ℕ) → (A → List DueInfo) → List A → Handed
-handed_in plan registers seen addons = record { plans = map plan addons; registers = map registers addons; seen = map seen addons }
-
--- the script's addons were loaded and run, and the others handed in are as they were
-pub record HasRun (script : Script) (handed : Handed) (left : Record) (after : Handed) : Type 0 where
-  pub enough : length script.addons ≤ length handed.plans
-  pub run : IsRunOf script handed.plans left after.registers handed.seen after.seen
-  pub loaded : after.plans ≡ told_plans script.addons handed.plans ++ drop (length script.addons) handed.plans
-  pub others : drop (length script.addons) after.registers ≡ drop (length script.addons) handed.registers
-
--- a script that the host can run: it has eight addons at most, its texts can be counted in 32 bits, and it has threads, workers and words of a schedule as a
--- script may
-pub record IsSmall (script : Script) : Type 0 where
-  pub few : length script.addons ≤ 8
-  pub texts : length script.texts < 2 ^ 32
-  pub actors : AreActors script.threads script.workers script.schedule
-
--- THE TEXT
--- what a command writes of a run with these texts: its trace, or the summary of that
-abbrev pub text_written : Command → List (List ℕ) → Record → List ℕ
-text_written command.Run texts left = text texts (weave left.journal left.history)
-text_written command.Summary texts left = summary (weave left.journal left.history)
-text_written (command.Load number) texts left = summary (weave left.journal left.history)
-
--- THE DEMAND
--- whether a script is what a top call demands: one that demands a schedule runs no script without one
-abbrev pub is_met : Demand → Script → Bool
-is_met demand.Nothing script = true
-is_met demand.Schedule script = is_some script.schedule
+use Rattle.outside.specs.Ends.{Input, Output}
+use Rattle.outside.specs.Given.{is_met, Gave, GaveScript, GaveTooMuch, CausesOfReading}
+use Rattle.outside.specs.Reading.{longest_source, GaveFront}
+use Rattle.outside.specs.Words.{command_of, reads, line_status, line_text}
+use Rattle.outside.specs.Written.{IsStatus, IsRunStatus, WroteLine}
+use Rattle.outside.specs.declared.commands.Command.{Command}
+use Rattle.outside.specs.declared.commands.Command.TheVariants as command
+use Rattle.outside.specs.declared.line.Line.{Line}
+use Rattle.outside.specs.declared.line.Line.TheVariants as line
+use Rattle.outside.specs.declared.scripts.Demand.{Demand}
+use Rattle.outside.specs.declared.scripts.Demand.TheVariants as demand
+use Rattle.script_run.specs.Load.{load_script}
+use Rattle.script_run.specs.Runs.{Handed, HasRun, IsSmall}
 
 -- THE BYTES
 -- the bytes are more than a source may give
@@ -146,62 +52,6 @@ pub record AreRunnable (d : Demand) (bytes : List ℕ) (handed : ℕ) : Type 0 w
   pub enough : length script.addons ≤ handed
   pub met : is_met d script ≡ true
 
--- why a script of the right form does not run: more addons than were handed in, or else no schedule that is demanded
-abbrev pub Misses : Demand → Script → ℕ → Line → Type 0
-Misses d script handed line.TooManyAddons = handed < length script.addons
-Misses d script handed line.Schedule = (length script.addons ≤ handed) × (is_met d script ≡ false)
-Misses d script handed _ = ⊥
-
--- THE INPUT
--- the source gave these bytes and no more, up to its end
-pub record Gave (input : Input) (bytes : List ℕ) : Type 0 where
-  pub whole : input.before ≡ prepend_known bytes input.after
-  pub ended : IsAtEnd input.after
-  pub all : IfSome input.before (λ given. bytes ≡ given)
-  pub within : length bytes ≤ longest_source
-
--- the script that the source gave
-pub record GaveScript (input : Input) (script : Script) : Type 0 where
-  pub bytes : List ℕ
-  pub gave : Gave input bytes
-  pub is_script : IsScript bytes script
-
--- the source gave bytes that are no JSON text
-pub record GaveNoJson (input : Input) : Type 0 where
-  pub bytes : List ℕ
-  pub gave : Gave input bytes
-  pub is_no_json : IsNoJson bytes
-
--- the source gave a JSON text that is no script, and this is the first thing that is wrong
-pub record GaveWrong (input : Input) (w : Wrong) : Type 0 where
-  pub bytes : List ℕ
-  pub gave : Gave input bytes
-  pub is_wrong : IsWrong bytes w
-
--- the source gave a JSON text in which the part at this path has the wrong form, before anything else is wrong
-pub record GaveWrongShape (input : Input) (path : List ℕ) : Type 0 where
-  pub bytes : List ℕ
-  pub gave : Gave input bytes
-  pub has_wrong_shape : HasWrongShape bytes path
-
--- the source gave a script with more addons than were handed in
-pub record GaveTooManyAddons (input : Input) (handed : ℕ) : Type 0 where
-  pub script : Script
-  pub gave : GaveScript input script
-  pub more : handed < length script.addons
-
--- the source gave a script with no more addons than were handed in, which has not the schedule that is demanded
-pub record GaveNoSchedule (d : Demand) (input : Input) (handed : ℕ) : Type 0 where
-  pub script : Script
-  pub gave : GaveScript input script
-  pub enough : length script.addons ≤ handed
-  pub unmet : is_met d script ≡ false
-
--- the source gave more bytes than a source may
-pub record GaveTooMuch (input : Input) : Type 0 where
-  pub more : GaveTooMany input.before input.after
-  pub told : IfSome input.before (λ given. longest_source < length given)
-
 -- THE COMMAND
 -- the script that a command runs: what the source gave, or the load script of its number
 abbrev pub IsScriptOf : Command → Input → Script → Type 0
@@ -232,18 +82,6 @@ pub record CameRefused (d : Demand) (c : Command) (input : Input) (handed : ℕ)
   pub is_refused : IsRefused d c bytes handed
 
 -- THE REFUSALS
--- why a line stands in place of a text, where the source is read. The schedule comes last: it is missed only where all else is right
-abbrev pub CausesOfReading : Demand → Line → Input → ℕ → Type 0
-CausesOfReading d line.Usage input handed = ⊥
-CausesOfReading d line.NotJson input handed = GaveNoJson input
-CausesOfReading d (line.Shape path) input handed = GaveWrongShape input path
-CausesOfReading d (line.Limit which) input handed = GaveWrong input (wrong.Limit which)
-CausesOfReading d line.TooManyAddons input handed = GaveTooManyAddons input handed
-CausesOfReading d line.Schedule input handed = GaveNoSchedule d input handed
-CausesOfReading d line.NoMemory input handed = ⊤
-CausesOfReading d line.ReadFault input handed = HasRisen input.faults input.faults_after
-CausesOfReading d line.TooLong input handed = GaveTooMuch input
-
 -- why it does where the load script is to run: where a schedule is demanded, always for want of one
 abbrev pub CausesOfLoad : Demand → Line → Script → ℕ → Type 0
 CausesOfLoad demand.Schedule l script handed = l ≡ line.Schedule
@@ -258,26 +96,73 @@ Causes d l (Some command.Run) input handed = CausesOfReading d l input handed
 Causes d l (Some command.Summary) input handed = CausesOfReading d l input handed
 Causes d l (Some (command.Load number)) input handed = CausesOfLoad d l (load_script number) handed
 
--- the sink took the whole line, or its faults rose and it took a front of it
-abbrev pub WroteLine : Output → List ℕ → Type 0
-WroteLine output line = (output.after ≡ append_known output.before line) ⊎ (HasRisen output.faults output.faults_after × TookFront output.before line output.after)
-
--- the sink took the whole text; or, where the text was cut off, its faults rose and it took a front of the text
-abbrev pub WroteText : Bool → Output → List ℕ → Type 0
-WroteText true output written = output.after ≡ append_known output.before written
-WroteText false output written = HasRisen output.faults output.faults_after × TookFront output.before written output.after
-
--- THE STATUSES
--- the statuses with which the top call ends
-abbrev pub IsStatus : ℕ → Type 0
-IsStatus status = IsTrue (list_any (λ known. known == status) (0 ∷ 2 ∷ 3 ∷ 4 ∷ 5 ∷ 6 ∷ 7 ∷ []))
-
--- the statuses after a run
-abbrev pub IsRunStatus : ℕ → Type 0
-IsRunStatus status = (status ≡ 0) ⊎ (status ≡ 5)
-
 -- the words ask for this command, and where it reads the source, these are the source's bytes, and no read failed
 pub record IsAskedFor (words : List (List ℕ)) (input : Input) (c : Command) (bytes : List ℕ) : Type 0 where
   pub asked : command_of words ≡ Some c
   pub told : reads (Some c) ≡ true → input.before ≡ Some bytes
   pub readable : reads (Some c) ≡ true → ¬ HasRisen input.faults input.faults_after
+
+-- THE ANSWER
+-- what a top call says of its status, of the line that stands in place of a text, and of faults. `handed` addons were handed in
+pub record Concluded (d : Demand) (words : List (List ℕ)) (input : Input) (output : Output) (handed : ℕ) (status : ℕ) : Type 0 where
+  pub known : IsStatus status
+  -- at every other status than those of a run a line has its cause, and stands in place of the text
+  pub refused : ¬ IsRunStatus status → (l : Line) × (status ≡ line_status l) × Causes d l (command_of words) input handed × WroteLine output (line_text l)
+  -- the same, status by status
+  pub usage : (status ≡ 2) ↔ (command_of words ≡ None)
+  pub no_script : status ≡ 3 → (c : Command) × (command_of words ≡ Some c) × CameRefused d c input handed
+  pub read_fault : status ≡ 4 → HasRisen input.faults input.faults_after
+  pub write_fault : status ≡ 5 → HasRisen output.faults output.faults_after
+  pub too_long : status ≡ 7 → GaveTooMuch input
+  -- each fault is told: of a read always, of a write where a text was written
+  pub read_fault_told : input.faults_after ≢ input.faults → status ≡ 4
+  pub write_fault_told : IsRunStatus status → output.faults_after ≢ output.faults → status ≡ 5
+  -- where no read failed, the words and the bytes that the source has say the status, or there was no memory: 7, else 3, else 0 or 5
+  pub too_long_told : (c : Command) (bytes : List ℕ) → IsAskedFor words input c bytes → IsTooLong c bytes → (status ≡ 7) ⊎ (status ≡ 6)
+  pub refused_told : (c : Command) (bytes : List ℕ) → IsAskedFor words input c bytes → IsRefused d c bytes handed → (status ≡ 3) ⊎ (status ≡ 6)
+  pub complete : (c : Command) (bytes : List ℕ) → IsAskedFor words input c bytes → IsRunnable d c bytes handed → IsRunStatus status ⊎ (status ≡ 6)
+
+-- what a top call says of the source: it reads nothing where the words are no command line or ask for a load, and else no more than a front of what is left
+pub record ReadAsAsked (words : List (List ℕ)) (input : Input) : Type 0 where
+  pub unread : reads (command_of words) ≡ false → input.after ≡ input.before
+  pub uncounted : reads (command_of words) ≡ false → input.faults_after ≡ input.faults
+  pub front : GaveFront input.before input.after
+  pub rises : input.faults ≤ input.faults_after
+
+-- WHAT CAME OF THE WORDS
+-- this is the load script of a number, which so many addons are enough for, and which is what is demanded
+pub record IsLoaded (d : Demand) (number handed : ℕ) (script : Script) : Type 0 where
+  pub of : script ≡ load_script number
+  pub small : IsSmall script
+  pub enough : length script.addons ≤ handed
+  pub met : is_met d script ≡ true
+
+-- it is, or why there is none
+abbrev pub LoadedOrRefused : Demand → ℕ → ℕ → Result Script Line → Type 0
+LoadedOrRefused d number handed (Ok script) = IsLoaded d number handed script
+LoadedOrRefused d number handed (Err l) = CausesOfLoad d l (load_script number) handed
+
+-- this command is asked for, and this is its script, which so many addons are enough for, and which is what is demanded
+pub record IsChosen (d : Demand) (words : List (List ℕ)) (input : Input) (handed : ℕ) (c : Command) (script : Script) : Type 0 where
+  pub asked : command_of words ≡ Some c
+  pub of : IsScriptOf c input script
+  pub small : IsSmall script
+  pub enough : length script.addons ≤ handed
+  pub met : is_met d script ≡ true
+
+-- a command and its script, or why there is none
+abbrev pub Chose : Demand → List (List ℕ) → Input → ℕ → Result (Command × Script) Line → Type 0
+Chose d words input handed (Ok chosen) = IsChosen d words input handed chosen.0 chosen.1
+Chose d words input handed (Err l) = Causes d l (command_of words) input handed
+
+-- the chosen script has run with the addons that were handed in, and these are its texts
+pub record HasRunChosen (d : Demand) (words : List (List ℕ)) (input : Input) (before : Handed) (handed : ℕ) (left : Record) (after : Handed) (c : Command) (texts : List (List ℕ)) : Type 0 where
+  pub script : Script
+  pub chosen : IsChosen d words input handed c script
+  pub run : HasRun script before left after
+  pub texts_are : texts ≡ script.texts
+
+-- it has, or why there was no run
+abbrev pub RanOrRefused : Demand → List (List ℕ) → Input → Handed → ℕ → Record → Handed → Result (Command × List (List ℕ)) Line → Type 0
+RanOrRefused d words input before handed left after (Ok ran) = HasRunChosen d words input before handed left after ran.0 ran.1
+RanOrRefused d words input before handed left after (Err l) = Causes d l (command_of words) input handed

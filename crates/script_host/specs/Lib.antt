@@ -1,9 +1,2 @@
 pub mod Host
 pub mod HostLaws
-pub mod Load
-pub mod Loading
-pub mod Outside
-pub mod Reading
-pub mod ScriptActors
-pub mod Standard
-pub mod Words

@@ -3,16 +3,10 @@
 //! Contracts see bytes, the machine's runs and the two lists that a run leaves. The program stands above it.
 #![tactic(auto)]
 
-mod actors;
+mod choosing;
 mod laws;
-mod load;
-mod reading;
-mod running;
-mod standard;
 mod top_call;
-mod words;
 
 pub use laws::commands_are_of_one_kind;
-pub use load::load_script;
-pub use standard::{StdSink, StdSource};
+pub use outside::{StdSink, StdSource};
 pub use top_call::{host, host_scheduled};

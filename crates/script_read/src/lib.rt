@@ -1,6 +1,6 @@
 //! Reading a script: from the bytes of a JSON text to the script that they are, or the first reason why they are none.
 //! What a script is stands in the definitions of `napi_types`; contracts see bytes, JSON values and scripts.
-//! `script_host` stands above it.
+//! `outside` stands above it.
 #![tactic(auto)]
 
 ghost use Rattle.std.specs.Prelude.{◌≡◌, IfOk, List, ℕ};

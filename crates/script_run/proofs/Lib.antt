@@ -1,0 +1,5 @@
+pub mod EndedActors
+pub mod LoadLists
+pub mod Loading
+pub mod Ran
+pub mod SmallLoad

@@ -1,0 +1,4 @@
+pub mod Load
+pub mod Loading
+pub mod Runs
+pub mod ScriptActors
