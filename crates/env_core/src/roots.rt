@@ -21,8 +21,8 @@ use value_store::Store;
 /// The roots: the starting values, the values of handles in open scopes, those of strong references, those that thread-safe
 /// functions keep, and the pending exception.
 ///
-/// It takes time linear in the handle places, for each of them logarithmic in the open scopes, in the references that were ever
-/// made, and in the roots of functions.
+/// It takes time linear in the handle places, for each of them logarithmic in the open scopes, in the places of references, and
+/// in the roots of functions.
 pub fn roots_of(
     alloc: Global,
     store: &Store,

@@ -1,5 +1,5 @@
 //! The calls on values, properties and elements, over a store of values and the handle scopes.
-//! Contracts see the two as the machine's heap (`specs/Seen.antt`), and each call as the machine's answer there.
+//! Contracts see the two as the machine's heap (`specs/SeenValues.antt`), and each call as the machine's answer there.
 //! The environment, which knows frames and the other calls, stands above.
 #![tactic(auto)]
 
