@@ -143,6 +143,7 @@ fn shared_calls_that_register_are_refused_from_the_teardown_on(rt: HostRuntime) 
     end_ticket(&rt, &mut core, finalizer, None);
     advance(&rt, &mut core, 0);
     look(&rt, &core, ("depth", 0, [67, 63, 957, 0, 0, 9, 0, 5]));
+    let _journal = core.into_journal();
 }
 
 /// A creation is handed over so, and the hub stops at it. The frame has made no ask more.
@@ -217,6 +218,7 @@ fn a_creation_names_a_target_where_nothing_refuses_it(rt: HostRuntime) {
         [1, 1, 1, 1, 0, 5, 0, 0],
     );
     leave(&rt, env, None, DONE);
+    let _journal = core.into_journal();
 }
 
 /// A scope of this number opens, and in it a function and an object with these handles; the object is a property of the function.
@@ -265,6 +267,7 @@ fn a_function_is_kept_until_its_thread_safe_function_has_finished(rt: HostRuntim
     tells(&rt, env, Call::Collect, "number", 2);
     tells(&rt, env, Call::Collect, "number", 0);
     look(&rt, env, ("depth", 1, [22, 5, 998, 0, 0, 1, 22, 0]));
+    let _journal = core.into_journal();
 }
 
 /// Frames that a duty of the hub began: one that makes no asks, and one that throws.
@@ -294,6 +297,7 @@ fn a_silent_frame_makes_no_asks_and_an_exception_ends_with_its_frame(rt: HostRun
     does(&rt, env, Call::Throw(HandleId(2)));
     end_delivery(&rt, env, &COMPLETION, 5, ("uncaught", 0));
     look(&rt, env, ("depth", 0, [11, 4, 1012, 0, 0, 9, 0, 1]));
+    let _journal = core.into_journal();
 }
 
 /// Whether the innermost frame makes asks, where one stands.
@@ -315,4 +319,5 @@ fn a_creation_that_finds_no_memory_changes_nothing(rt: HostRuntime) {
     answers(&rt, env, Out::Function(TsfnId(1)), 1);
     tells(&rt, env, Call::GetLastErrorInfo, "number", 0);
     look(&rt, env, ("depth", 1, [4, 1, 1016, 0, 0, 1, 3, 0]));
+    let _journal = core.into_journal();
 }

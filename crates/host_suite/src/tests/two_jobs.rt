@@ -1,21 +1,32 @@
-//! Two jobs at once: the first worker is held before its job until the second one is there. No clause says that two threads run at once.
+//! Actors on threads of their own: the first worker is held before its job until the second one is there. No clause says that two threads run at once,
+//! nor that a worker and a thread come to the gate where there is one of each.
 use super::*;
 use std::sync::atomic::{AtomicU64, Ordering};
 
-/// Two works, two workers, and a thread that acquires a function and releases it twice.
+/// Two works, two workers, a thread without operations, and one that acquires a function and releases it twice.
 const TWO_WORKS: &[u8] =
-    br#"{"version":9,"workers":2,"addons":[{"name":"a","entries":[[["create_async_work",["sum",4],1,0,0],["queue_async_work",0],["create_async_work",["mix",1,1],1,0,1],["queue_async_work",1],["create_threadsafe_function",-1,1,0,1,-1,0,2]],[]]}],"threads":[[["acquire_threadsafe_function",1],["release_threadsafe_function",1,0],["release_threadsafe_function",1,0]]]}"#;
+    br#"{"version":9,"workers":2,"addons":[{"name":"a","entries":[[["create_async_work",["sum",4],1,0,0],["queue_async_work",0],["create_async_work",["mix",1,1],1,0,1],["queue_async_work",1],["create_threadsafe_function",-1,1,0,1,-1,0,2]],[]]}],"threads":[[],[["acquire_threadsafe_function",1],["release_threadsafe_function",1,0],["release_threadsafe_function",1,0]]]}"#;
+
+/// The same works and one worker, and that thread alone.
+const ONE_WORKER: &[u8] =
+    br#"{"version":9,"workers":1,"addons":[{"name":"a","entries":[[["create_async_work",["sum",4],1,0,0],["queue_async_work",0],["create_async_work",["mix",1,1],1,0,1],["queue_async_work",1],["create_threadsafe_function",-1,1,0,1,-1,0,2]],[]]}],"threads":[[["acquire_threadsafe_function",1],["release_threadsafe_function",1,0],["release_threadsafe_function",1,0]]]}"#;
 
 /// How often a worker looks whether the other one is there.
 const MOST_LOADS: u32 = 200_000_000;
 
-/// A gate that holds a worker before its job until both are there, and gives up after so many looks.
+/// A gate that holds a worker before its job until all are there, and gives up after so many looks.
 #[derive(Drop)]
 struct Meeting {
-    /// The workers that came: 1 for the first one, and 2 for the second.
+    /// The number of the thread that makes calls. The workers have the numbers behind it.
+    caller: u32,
+    /// The workers that are to come: 1 for the first one, and 2 for the second.
+    wanted: u64,
+    /// Those that came.
     there: AtomicU64,
     /// How many of them gave up.
     alone: AtomicU64,
+    /// How often a worker came.
+    jobs: AtomicU64,
     /// How often the thread came.
     calls: AtomicU64,
     /// How often it was another actor, or another point.
@@ -23,20 +34,24 @@ struct Meeting {
 }
 
 impl Meeting {
-    fn new() -> Meeting {
+    fn new(caller: u32, wanted: u64) -> Meeting {
         Meeting {
+            caller,
+            wanted,
             there: AtomicU64::new(0),
             alone: AtomicU64::new(0),
+            jobs: AtomicU64::new(0),
             calls: AtomicU64::new(0),
             others: AtomicU64::new(0),
         }
     }
 
-    /// A worker comes, and looks until both are there.
+    /// A worker comes, and looks until all are there.
     fn meet(&self, worker: u64) {
+        let _ = self.jobs.fetch_add(1, Ordering::SeqCst);
         let _ = self.there.fetch_or(worker, Ordering::SeqCst);
         for _ in 0..MOST_LOADS {
-            if self.there.load(Ordering::SeqCst) == 3 {
+            if self.there.load(Ordering::SeqCst) == self.wanted {
                 return;
             }
         }
@@ -44,10 +59,11 @@ impl Meeting {
     }
 
     /// What was counted.
-    fn counts(&self) -> [u64; 4] {
+    fn counts(&self) -> [u64; 5] {
         [
             self.there.load(Ordering::SeqCst),
             self.alone.load(Ordering::SeqCst),
+            self.jobs.load(Ordering::SeqCst),
             self.calls.load(Ordering::SeqCst),
             self.others.load(Ordering::SeqCst),
         ]
@@ -55,14 +71,14 @@ impl Meeting {
 }
 
 impl Gate for Meeting {
-    /// The thread has the number 1 and comes to point 2, before each operation. The workers have 2 and 3, and come to point 1, before each job.
+    /// The thread comes to point 2, before each operation. The workers come to point 1, before each job.
     fn at<R: Wait>(&self, _rt: &R, actor: u32, point: u32) {
-        match (actor, point) {
-            (1, 2) => {
+        match (actor.checked_sub(self.caller), point) {
+            (Some(0), 2) => {
                 let _ = self.calls.fetch_add(1, Ordering::SeqCst);
             }
-            (2, 1) => self.meet(1),
-            (3, 1) => self.meet(2),
+            (Some(1), 1) => self.meet(1),
+            (Some(2), 1) => self.meet(2),
             _ => {
                 let _ = self.others.fetch_add(1, Ordering::SeqCst);
             }
@@ -104,22 +120,28 @@ fn worked<R: Abort>(rt: &R, alloc: Global, trace: &str) -> bool {
     }
 }
 
-/// The status of the run at this gate, and its trace.
-fn ran<R: Abort + Threads + Wait + Sync>(rt: &R, alloc: Global, meeting: &Meeting) -> (u8, String) {
+/// The status of the run of a script at this gate, and its trace.
+fn ran<R: Abort + Threads + Wait + Sync>(
+    rt: &R,
+    alloc: Global,
+    meeting: &Meeting,
+    script: &[u8],
+) -> (u8, String) {
     let mut addons: Vec<Box<dyn Addon>> = Vec::new(alloc);
     let scripted = given(rt, Box::new(alloc, ScriptAddon::blank(alloc)));
     given(rt, addons.push(scripted));
-    run_at(rt, alloc, meeting, TWO_WORKS, &mut addons)
+    run_at(rt, alloc, meeting, script, &mut addons)
 }
 
+/// The thread that makes calls has the number 2, and the workers have 3 and 4: whoever has no thread of its own does not come to the gate.
 #[test]
 fn two_workers_execute_their_jobs_at_once(rt: HostRuntime) {
     let alloc = rt.alloc();
-    let meeting = Meeting::new();
-    let (status, trace) = ran(&rt, alloc, &meeting);
-    assert_eq!(&rt; (status, meeting.counts()), (0, [3, 0, 3, 0]));
+    let meeting = Meeting::new(2, 3);
+    let (status, trace) = ran(&rt, alloc, &meeting, TWO_WORKS);
+    assert_eq!(&rt; (status, meeting.counts()), (0, [3, 0, 2, 3, 0]));
     assert!(&rt; worked(&rt, alloc, &trace));
-    assert_eq!(&rt; told_of(&rt, alloc, &trace, "t0").as_str(), CALLS);
+    assert_eq!(&rt; told_of(&rt, alloc, &trace, "t1").as_str(), CALLS);
     let told = told_of(&rt, alloc, &trace, "env");
     for line in [
         ";begin 0 complete:0.1:j1;",
@@ -128,4 +150,14 @@ fn two_workers_execute_their_jobs_at_once(rt: HostRuntime) {
     ] {
         assert!(&rt; told.contains(line), "no {line}");
     }
+}
+
+/// One worker comes before each of two jobs, and the thread, which has the number 1, before each of its calls.
+#[test]
+fn a_worker_and_a_thread_come_to_the_gate(rt: HostRuntime) {
+    let alloc = rt.alloc();
+    let meeting = Meeting::new(1, 1);
+    let (status, trace) = ran(&rt, alloc, &meeting, ONE_WORKER);
+    assert_eq!(&rt; (status, meeting.counts()), (0, [1, 0, 2, 3, 0]));
+    assert_eq!(&rt; told_of(&rt, alloc, &trace, "t0").as_str(), CALLS);
 }

@@ -122,7 +122,10 @@ fn queue_one<N: Naming>(rt: &impl Abort, alloc: Global, history: u32) -> ([Statu
         Call::CreateAsyncWork(JobSpec::Sum(4), 0, 0),
         None,
     ));
-    ([status_of(created), queued, again], state.history().len())
+    (
+        [status_of(created), queued, again],
+        state.into_history().items().len(),
+    )
 }
 
 /// The numbers are named here.
@@ -181,7 +184,7 @@ fn ask_of_nothing<N: Naming>(
             refused,
         )),
     ];
-    (found, state.history().len())
+    (found, state.into_history().items().len())
 }
 
 /// The numbers are named here.
@@ -414,7 +417,7 @@ fn go_through_stages<N: Naming>(rt: &impl Abort, alloc: Global) -> Stages
         rows,
         [completion, delivery],
         moves,
-        (cancelled, came, state.history().len()),
+        (cancelled, came, state.into_history().items().len()),
     )
 }
 
@@ -512,7 +515,9 @@ fn go_on_by_number<N: Naming>(rt: &impl Abort, alloc: Global) -> Orders
         Call::ReleaseThreadsafeFunction(SECOND, Release::Abort),
         None,
     ));
-    (threads, calls, by_number, five_moves(&mut state))
+    let torn = five_moves(&mut state);
+    let _history = state.into_history();
+    (threads, calls, by_number, torn)
 }
 
 /// The numbers are named here.
@@ -650,7 +655,10 @@ fn serve<N: Naming>(rt: &impl Abort, alloc: Global) -> Served
         calls,
         [going, looped, closing],
         moves,
-        ([with_both, with_worker, came], state.history().len()),
+        (
+            [with_both, with_worker, came],
+            state.into_history().items().len(),
+        ),
     )
 }
 

@@ -141,15 +141,15 @@ fn make_and_delete(rt: &impl Abort, references: &mut Refs) -> RefId
     reference
 }
 
-/// Three are made and deleted in turn, and a place is used for two of them. Whether their numbers differ, and with what each is refused then.
-fn in_turn(rt: &impl Abort, references: &mut Refs) -> (bool, [Option<Status>; 3])
+/// Three are made and deleted in turn. Their numbers, and with what each is refused then.
+fn in_turn(rt: &impl Abort, references: &mut Refs) -> ([RefId; 3], [Option<Status>; 3])
     requires { references.old.issued ≡ [] }
 {
     let first = make_and_delete(rt, references);
     let second = make_and_delete(rt, references);
     let third = make_and_delete(rt, references);
     (
-        first != second && second != third && third != first,
+        [first, second, third],
         [
             references.value(first).err(),
             references.value(second).err(),
@@ -158,13 +158,23 @@ fn in_turn(rt: &impl Abort, references: &mut Refs) -> (bool, [Option<Status>; 3]
     )
 }
 
+/// The numbers of three, where a place has two generations, and where it has many: the place of the first one is used again.
+const IN_TURN: [[RefId; 3]; 2] = [
+    [RefId(1), RefId(0x1_0000_0000_0001), RefId(2)],
+    [
+        RefId(1),
+        RefId(0x1_0000_0000_0001),
+        RefId(0x2_0000_0000_0001),
+    ],
+];
+
 #[test]
-fn no_number_is_given_again(rt: HostRuntime) {
-    let mut references = ample(&rt, Refs::with_generations(rt.alloc(), 1));
-    assert_eq!(rt;
-        in_turn(&rt, &mut references),
-        (true, [Some(Status::InvalidArg); 3])
-    );
+fn a_place_is_used_again_and_no_number(rt: HostRuntime) {
+    let mut twice = ample(&rt, Refs::with_generations(rt.alloc(), 1));
+    let mut often = ample(&rt, Refs::new(rt.alloc()));
+    let found = [in_turn(&rt, &mut twice), in_turn(&rt, &mut often)];
+    let refused = [Some(Status::InvalidArg); 3];
+    assert_eq!(rt; found, [(IN_TURN[0], refused), (IN_TURN[1], refused)]);
 }
 
 /// A finalizer of the value is registered and attached. No value is wrapped, and the book gave each ticket that is attached.

@@ -201,6 +201,40 @@ pub fn create(rt: &impl Abort, works: &mut Works, payload: u64) -> WorkId
     ample(rt, works.create(JobSpec::Sum(payload), 5, 6, payload))
 }
 
+/// A work is created, and deleted at once. Its id.
+fn create_and_delete(rt: &impl Abort, works: &mut Works) -> WorkId
+    requires { length works.old.issued < 2 ^ 20 }
+    ensures { length works.new.issued ≤ length works.old.issued + 1 }
+{
+    let id = create(rt, works, 1);
+    accepted(rt, works.delete(id));
+    id
+}
+
+/// Three are created and deleted in turn. Their ids.
+fn in_turn(rt: &impl Abort, works: &mut Works) -> [WorkId; 3]
+    requires { works.old ≡ new_pool }
+{
+    [
+        create_and_delete(rt, works),
+        create_and_delete(rt, works),
+        create_and_delete(rt, works),
+    ]
+}
+
+/// The place of the first one is used again.
+const IN_TURN: [WorkId; 3] = [
+    WorkId(1),
+    WorkId(0x1_0000_0000_0001),
+    WorkId(0x2_0000_0000_0001),
+];
+
+#[test]
+fn the_place_of_a_deleted_work_is_used_again(rt: HostRuntime) {
+    let mut works: Works = ample(&rt, Pool::new(rt.alloc()));
+    assert_eq!(rt; in_turn(&rt, &mut works), IN_TURN);
+}
+
 /// A work is queued, and this is its number.
 pub fn queue(rt: &impl Abort, works: &mut Works, id: WorkId) -> u64
     requires { works.old.closing ≡ false }
