@@ -1,16 +1,17 @@
 -- Near misses of what becomes of works, items and functions: entries as those of a worked run in which one duty begins otherwise.
 use Rattle.std.specs.Prelude.{List, ◌∷◌, ◌++◌, set, take, drop}
+use Rattle.napi_types.specs.declared.call.Call.TheVariants as call
 use Rattle.napi_types.specs.declared.entry.Cause.TheVariants as cause
 use Rattle.napi_types.specs.declared.entry.Duty.TheVariants as duty
 use Rattle.napi_types.specs.declared.entry.Entry.{Entry}
 use Rattle.napi_types.specs.declared.status.Status.TheVariants as status
 use Rattle.napi_types.specs.all_runs.Counts.{Once, TellsStarts}
 use Rattle.napi_types.specs.all_runs.ItemOrder.{CountItems}
-use Rattle.napi_types.specs.all_runs.Cancels.{IsCancelledOnce}
+use Rattle.napi_types.specs.all_runs.Cancels.{IsCancelledOnce, CancelsHold}
 use Rattle.machine_laws.specs.Abort as abort
 use Rattle.machine_laws.specs.CancelAfterStart as cancel_after_start
 use Rattle.machine_laws.specs.CancelBeforeStart as cancel_before_start
-use Rattle.machine_laws.specs.HubWords.{item_begins, completion_begins, worker_starts}
+use Rattle.machine_laws.specs.HubWords.{item_begins, completion_begins, shared_at, shared_making, worker_starts, work, work_duty}
 use Rattle.machine_laws.specs.ReleaseToZero as release_to_zero
 use Rattle.machine_laws.specs.RunWords.{left_out}
 use Rattle.machine_laws.specs.WorkWithoutWorkers as work_without_workers
@@ -43,6 +44,16 @@ cancelled_but_done = set cancel_before_start.trace 9 (completion_begins 1 status
 abbrev pub cancelled_and_started : List Entry
 cancelled_and_started = take 5 cancel_before_start.trace ++ worker_starts 0 1 ∷ drop 5 cancel_before_start.trace
 
+-- the accepted cancel names a work that was never queued, ..
+abbrev pub another_cancelled : List Entry
+another_cancelled = set cancel_before_start.trace 4 (shared_at 2 (call.CancelAsyncWork (work 2)) status.Ok)
+
+-- .. or comes before the work is queued
+abbrev pub cancelled_first : List Entry
+cancelled_first =
+    take 3 cancel_before_start.trace ++ shared_at 1 (call.CancelAsyncWork (work 1)) status.Ok ∷ shared_making 2 (call.QueueAsyncWork (work 1)) status.Ok (work_duty 1)
+    ∷ drop 5 cancel_before_start.trace
+
 -- each duty is once in the runs of those two functions; ..
 pub record OnceOfTheHubIsStrict : Type 0 where
   pub items : Once release_to_zero.trace
@@ -70,3 +81,13 @@ pub record CompletionsAreStrict : Type 0 where
   pub accepted : IsCancelledOnce 1 cancelled_but_done → ⊥
   -- .. nor is a work cancelled that starts behind its cancelling
   pub late : IsCancelledOnce 1 cancelled_and_started → ⊥
+
+-- an accepted cancel cancels the work that was last queued under its id; ..
+pub record CancelsAreStrict : Type 0 where
+  pub run : CancelsHold cancel_before_start.trace
+  -- .. it does not where the completion begins with 0, or a worker starts the work, ..
+  pub done : CancelsHold cancelled_but_done → ⊥
+  pub late : CancelsHold cancelled_and_started → ⊥
+  -- .. nor where no work was queued under that id, or only behind the cancel
+  pub another : CancelsHold another_cancelled → ⊥
+  pub first : CancelsHold cancelled_first → ⊥

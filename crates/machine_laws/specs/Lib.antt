@@ -37,6 +37,7 @@ pub mod NextHandle
 pub mod OnceMisses
 pub mod OrderOfScopes
 pub mod PendingException
+pub mod PlaceMisses
 pub mod PlacesAlong
 pub mod PlacesOfWorks
 pub mod PropertiesAndElements

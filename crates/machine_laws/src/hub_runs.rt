@@ -15,7 +15,8 @@ ghost use Rattle.machine_laws.specs.TornWithoutEntry as torn_without_entry;
 ghost use Rattle.machine_laws.specs.ReleaseToZero as release_to_zero;
 ghost use Rattle.machine_laws.specs.TwoFunctions as two_functions;
 ghost use Rattle.machine_laws.specs.ExitInTheMiddle as exit_in_the_middle;
-ghost use Rattle.machine_laws.specs.DutyMisses.{OnceOfTheHubIsStrict, ItemOrderIsStrict, CompletionsAreStrict};
+ghost use Rattle.machine_laws.specs.DutyMisses.{OnceOfTheHubIsStrict, ItemOrderIsStrict, CompletionsAreStrict, CancelsAreStrict};
+ghost use Rattle.machine_laws.specs.PlaceMisses.{PlacesAreStrict};
 
 /// A realistic addon: a work, a thread-safe function that two threads call, and a finalizer.
 pub fn realistic_addon_runs()
@@ -129,4 +130,13 @@ pub fn duties_of_the_hub()
     // A completion tells whether its work started, and a work that is cancelled never starts. It is not so with 11 of a work that started, with 0 of
     // one that did not or whose cancelling was accepted, nor where a work starts behind its cancelling.
     ensures completions { CompletionsAreStrict }
+
+    // An accepted cancel cancels the work that was last queued under its id. It is not so where that work completes with 0 or starts, where no work was
+    // queued under the id, or only behind the cancel.
+    ensures cancels { CancelsAreStrict }
+{}
+
+/// Where the entries of the journal stand. A local call that stands behind an entry of a thread leaves a run, and it does not stand in its place.
+pub fn places_of_the_journal()
+    ensures { PlacesAreStrict }
 {}
