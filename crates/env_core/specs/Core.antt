@@ -6,7 +6,7 @@ use Rattle.napi_types.specs.declared.entry.Phase.TheVariants as phase
 use Rattle.napi_types.specs.declared.entry.SharedCall.{SharedCall}
 use Rattle.napi_types.specs.plain.Room.{Room, most_entries}
 use Rattle.napi_types.specs.environment.Changes.{Change, opening_change, gone_change, in_phase}
-use Rattle.napi_types.specs.environment.Environment.{Environment, new_environment}
+use Rattle.napi_types.specs.environment.Environment.{Environment, OpenedWith, new_environment}
 use Rattle.napi_types.specs.environment.Hooked.{IsHooked}
 use Rattle.napi_types.specs.environment.JournalRoom.{journal_room, reserved_journal}
 use Rattle.env_core.specs.Journal.{Pages}
@@ -24,10 +24,10 @@ pub record Core : Type 0 where
 abbrev pub after_change : Change → Core → Core
 after_change c core = record core { env = c.after; journal = core.journal ++ record { at = core.position; entry = c.entry } ∷ [] }
 
--- a core as it opens
-abbrev pub opened_core : ℕ → ℕ → ℕ → Core
-opened_core addons texts limit =
-    after_change (opening_change (new_environment addons texts)) (record { env = new_environment addons texts; journal = []; limit = limit; position = 0; awaited = None })
+-- a core as it opens: what its environment is opened with, and the journal's limit
+abbrev pub opened_core : OpenedWith → ℕ → Core
+opened_core given limit =
+    after_change (opening_change (new_environment given)) (record { env = new_environment given; journal = []; limit = limit; position = 0; awaited = None })
 
 -- a phase starts at an event of the hub, after which the history has that length; the last one starts at an entry of its own
 abbrev pub after_phase : Phase → ℕ → Core → Core

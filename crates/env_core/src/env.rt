@@ -91,7 +91,7 @@ impl EnvCore {
         requires version { version ≡ napi_version }
         requires room { 2 + 2 * addons ≤ limits.journal }
         requires most { limits.journal ≤ most_entries }
-        ensures { IfOk result (λ core. core ≡ opened_core addons texts limits.journal) }
+        ensures { IfOk result (λ core. core ≡ opened_core (record { addons = addons; texts = texts }) limits.journal) }
     {
         let mut journal = Journal::new(alloc, limits.journal, 2 + 2 * addons)?;
         let mut state = State::new(alloc, addons, texts)?;

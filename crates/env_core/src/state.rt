@@ -116,7 +116,7 @@ impl Model for State {
 impl State {
     /// The state before the opening, with the five starting values.
     pub fn new(alloc: Global, addons: u32, texts: u32) -> Result<State, NoMemory>
-        ensures { IfOk result (λ state. state ≡ new_environment addons texts) }
+        ensures { IfOk result (λ state. state ≡ new_environment (record { addons = addons; texts = texts })) }
     {
         let store = Store::new(alloc)?;
         let scopes = Scopes::new(alloc)?;

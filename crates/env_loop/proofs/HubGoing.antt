@@ -1,5 +1,5 @@
 -- A run that is followed goes on at the hub; where it begins, and what it is at its end.
-use Rattle.std.proofs.Common.{◌≡◌, ◌∙◌, ℕ, false, List, [], length, refl, ap, subst, sym, append-nil, None}
+use Rattle.std.proofs.Common.{◌≡◌, ◌∙◌, ℕ, false, List, [], refl, ap, subst, sym, append-nil, None}
 use Rattle.std.proofs.lemmas.List.Elements.{All-nil}
 use Rattle.napi_types.specs.declared.duties.DueInfo.{DueInfo}
 use Rattle.napi_types.specs.declared.entry.Entry.{Entry}
@@ -8,7 +8,7 @@ use Rattle.napi_types.specs.scripts.Plans.{Plan}
 use Rattle.napi_types.specs.hub.Hub.{new_hub}
 use Rattle.napi_types.specs.hub.HubSteps.{hub_along}
 use Rattle.napi_types.specs.hub.Replays.{HubReplays}
-use Rattle.napi_types.specs.runs.Setting.{Setting, opening_of}
+use Rattle.napi_types.specs.runs.Setting.{Setting, opens_with, opening_of}
 use Rattle.env_core.specs.Core.{Core, opened_core}
 use Rattle.shared_hub.specs.HubStates.{HubSeen}
 use Rattle.shared_hub.specs.KeptHubs.{IsLedHub}
@@ -69,7 +69,7 @@ pub opened-followed : OpenedRunsAreFollowed
 opened-followed s core all is blank =
     let P : Core → Type 0 = λ c. IsFollowed s (opened_run c) [] all all.seen in
     subst P (sym is)
-    (followed-whole s (opened_run (opened_core (length s.plans) s.texts s.limits.journal)) [] all all.seen
+    (followed-whole s (opened_run (opened_core (opens_with s) s.limits.journal)) [] all all.seen
     (record { recorded = opened-recorded s all blank; owed = record { call = tt; end = tt } }) (λ none. refl))
 
 -- ITS END

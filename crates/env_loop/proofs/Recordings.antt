@@ -22,7 +22,7 @@ use Rattle.napi_types.specs.runs.Machine.{Machine}
 use Rattle.napi_types.specs.runs.Parting.{sides_along}
 use Rattle.napi_types.specs.runs.Plan.{after_event, after_entry, frames_ask, asked, registers_after}
 use Rattle.napi_types.specs.runs.Run.{after, IsNext}
-use Rattle.napi_types.specs.runs.Setting.{Setting, EndsBy, opening_of, RunsBy, final_of, final_registers, planned_asks}
+use Rattle.napi_types.specs.runs.Setting.{Setting, EndsBy, opens_with, opening_of, RunsBy, final_of, final_registers, planned_asks}
 use Rattle.napi_types.specs.runs.Step.{Step, step, locally}
 use Rattle.napi_types.proofs.plain.Weaves.{weave-local, sides-local, rises-append}
 use Rattle.napi_types.proofs.runs.InPlace.{own-placed, last-more, placed-more}
@@ -162,7 +162,7 @@ agrees-blank (Some p) mine own e f = e ∙ sym f
 
 -- a core that opened is a recorded run, where the addons' registers are cleared
 pub opened-recorded : (s : Setting) (all : AddonStates) → ((addon : ℕ) → addon < length s.plans → registers_of all.registers addon ≡ blank_registers)
-    → IsRecorded s (opened_core (length s.plans) s.texts s.limits.journal) (opening_of s).hub [] all all.seen
+    → IsRecorded s (opened_core (opens_with s) s.limits.journal) (opening_of s).hub [] all all.seen
 opened-recorded s all blank = record {
   asks = ask.Leave None ∷ [];
   own = loaded_registers s.plans;

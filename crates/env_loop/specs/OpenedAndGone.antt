@@ -6,7 +6,7 @@ use Rattle.napi_types.specs.declared.entry.Phase.TheVariants as phase
 use Rattle.napi_types.specs.scripts.Plans.{Plan, registers_of}
 use Rattle.napi_types.specs.scripts.Registers.{blank_registers}
 use Rattle.napi_types.specs.hub.Replays.{HubReplays}
-use Rattle.napi_types.specs.runs.Setting.{Setting, opening_of}
+use Rattle.napi_types.specs.runs.Setting.{Setting, opens_with, opening_of}
 use Rattle.env_core.specs.Core.{Core, opened_core}
 use Rattle.napi_types.specs.declared.lists.Record.{Record}
 use Rattle.env_loop.specs.FollowedRuns.{IsFollowed, HasNumbers}
@@ -24,9 +24,9 @@ pub record IsOpenedRun (run : Run) : Type 0 where
 abbrev pub OpenedRunsFit : Type 0
 OpenedRunsFit = (n : Numbers) (run : Run) → IsOpenedRun run → FitsHub run (hub_seen n [])
 
--- a run that opened for the addons, the texts and the limit of a script is followed over the empty history, where its addons' registers are cleared
+-- a run that opened with what a script's environment opens with, under its limit, is followed over the empty history, where its addons' registers are cleared
 abbrev pub OpenedRunsAreFollowed : Type 0
-OpenedRunsAreFollowed = (s : Setting) (core : Core) (all : AddonStates) → core ≡ opened_core (length s.plans) s.texts s.limits.journal
+OpenedRunsAreFollowed = (s : Setting) (core : Core) (all : AddonStates) → core ≡ opened_core (opens_with s) s.limits.journal
     → ((addon : ℕ) → addon < length s.plans → registers_of all.registers addon ≡ blank_registers)
     → IsFollowed s (opened_run core) [] all all.seen
 

@@ -14,7 +14,7 @@ use Rattle.napi_types.specs.plain.Guards.{is_shared}
 use Rattle.napi_types.specs.parts.Duties.{duties_of, AreNested}
 use Rattle.napi_types.specs.parts.Frames.{Frame, asks_made, duty_of, is_hub_duty, most_asks}
 use Rattle.napi_types.specs.environment.Asks.{AsksWithin}
-use Rattle.napi_types.specs.environment.Environment.{Environment}
+use Rattle.napi_types.specs.environment.Environment.{Environment, opened_with}
 use Rattle.napi_types.specs.environment.Hooked.{IsHooked}
 use Rattle.napi_types.specs.environment.Owners.{IsOwned}
 use Rattle.napi_types.specs.environment.SharedCalls.{shared_call_of}
@@ -38,7 +38,7 @@ opened_run core = record { core = core; begun = None; ending = None }
 
 -- a core as it opens
 abbrev pub IsOpened : Core → Type 0
-IsOpened core = core ≡ opened_core core.env.addons core.env.texts core.limit
+IsOpened core = core ≡ opened_core (opened_with core.env) core.limit
 
 -- why a frame is cut that ends so, where it is
 abbrev pub cut_at : FrameEnd → Option Why

@@ -5,6 +5,7 @@ use Rattle.napi_types.specs.declared.entry.Actor.TheVariants as actor
 use Rattle.napi_types.specs.declared.entry.Entry.{Entry}
 use Rattle.napi_types.specs.declared.entry.Phase.TheVariants as phase
 use Rattle.napi_types.specs.plain.Entries.{is_environment}
+use Rattle.napi_types.specs.environment.Environment.{OpenedWith}
 use Rattle.napi_types.specs.parts.Pool.{executed_by}
 use Rattle.napi_types.specs.hub.ActorLaws.{worker_at}
 use Rattle.napi_types.specs.hub.Actors.{is_thread, is_worker, Working, Over}
@@ -27,11 +28,16 @@ use Rattle.env_loop.specs.declared.run.HubTurn.TheVariants as hub_turn
 use Rattle.env_loop.proofs.ActorsStand.{thread-runs-stand, worker-runs-stand}
 use Rattle.env_loop.proofs.FollowedRuns.{fitting-runs-stand}
 
+-- what the environment of these tests is opened with
+abbrev one_addon : OpenedWith
+one_addon = record { addons = 1; texts = 0 }
+
 -- a hub that opened fits a run of which no turn was made
-pub opened-fits : (n : Numbers) (journal : ℕ) (start : Run) (seen : HubSeen) → start ≡ opened_run (opened_core 1 0 journal) → seen ≡ hub_seen n [] → FitsHub start seen
-opened-fits n journal start seen opens is = subst (λ r. FitsHub r seen) (sym opens) (subst (FitsHub (opened_run (opened_core 1 0 journal))) (sym is) fits)
+pub opened-fits : (n : Numbers) (journal : ℕ) (start : Run) (seen : HubSeen) → start ≡ opened_run (opened_core one_addon journal) → seen ≡ hub_seen n []
+    → FitsHub start seen
+opened-fits n journal start seen opens is = subst (λ r. FitsHub r seen) (sym opens) (subst (FitsHub (opened_run (opened_core one_addon journal))) (sym is) fits)
   where
-    fits : FitsHub (opened_run (opened_core 1 0 journal)) (hub_seen n [])
+    fits : FitsHub (opened_run (opened_core one_addon journal)) (hub_seen n [])
     fits = record { stage = refl; standing = refl; owned = record { works = All-nil _; functions = All-nil _ }; noted = omega (arith) }
 
 -- AN ACTOR BESIDE IT

@@ -6,8 +6,8 @@ use Rattle.std.proofs.lemmas.List.Elements.{All-nil, All-cons}
 use Rattle.napi_types.specs.parts.Heap.{new_heap}
 use Rattle.napi_types.specs.parts.Reach.{numbers}
 use Rattle.napi_types.specs.parts.Values.{Value, children, starting_values}
-use Rattle.napi_types.specs.environment.Environment.{Environment, new_environment}
-use Rattle.napi_types.specs.runs.Setting.{opening_of}
+use Rattle.napi_types.specs.environment.Environment.{Environment, OpenedWith, new_environment}
+use Rattle.napi_types.specs.runs.Setting.{opens_with, opening_of}
 use Rattle.napi_types.specs.plain.Lists.{is_empty}
 use Rattle.machine_laws.specs.Consistency.{AreIssued, IsConsistent, IsLiveAmong}
 use Rattle.machine_laws.specs.HandleLaws.{EnvironmentsAreConsistent}
@@ -49,12 +49,12 @@ new-heap-good = record {
   starting = all-there (numbers starting_values);
 }
 
-pub opening-consistent : (addons texts : ℕ) → IsConsistent (new_environment addons texts)
-opening-consistent addons texts =
-    let e : Environment = new_environment addons texts in
+pub opening-consistent : (given : OpenedWith) → IsConsistent (new_environment given)
+opening-consistent given =
+    let e : Environment = new_environment given in
     whole-of e (record { heap = new-heap-good; referred = λ k d below. absurd (omega (arith, below)); references = none-map; pending = tt; rooted = λ k d below. absurd (omega (arith, below)) }) refl (omega arith)
 
 -- RUNS
 pub environments-are-consistent : EnvironmentsAreConsistent
 environments-are-consistent s bs xs n run =
-    (run-follows (opening_of s) (take n bs) (take n xs) (steps-front (opening_of s) bs xs n run) (opening-consistent _ s.texts)).good
+    (run-follows (opening_of s) (take n bs) (take n xs) (steps-front (opening_of s) bs xs n run) (opening-consistent (opens_with s))).good

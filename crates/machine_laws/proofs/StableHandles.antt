@@ -5,7 +5,7 @@ use Rattle.std.proofs.lemmas.Bool.{and_left, cases_lt}
 use Rattle.std.proofs.lemmas.Map.Keys.{IsDistinct-tail}
 use Rattle.napi_types.specs.parts.Scopes.{OpenHandle, held_by_frames, gives}
 use Rattle.napi_types.specs.environment.Environment.{Environment}
-use Rattle.napi_types.specs.runs.Setting.{opening_of, final_of}
+use Rattle.napi_types.specs.runs.Setting.{opens_with, opening_of, final_of}
 use Rattle.machine_laws.specs.Consistency.{IsConsistent}
 use Rattle.machine_laws.specs.HandleLaws.{HandlesAreStable}
 use Rattle.machine_laws.proofs.ConsistentAnswers.{LeadsToConsistent}
@@ -70,7 +70,7 @@ same-later old new h v w c follows before later =
 
 pub handles-are-stable : HandlesAreStable
 handles-are-stable s bs xs i j h v w run one two =
-    let opening : IsConsistent (opening_of s).env = opening-consistent _ s.texts in
+    let opening : IsConsistent (opening_of s).env = opening-consistent (opens_with s) in
     let at : ℕ → Environment = λ n. (final_of s (take n bs) (take n xs)).env in
     let good : (n : ℕ) → IsConsistent (at n) =
     λ n. (run-follows (opening_of s) (take n bs) (take n xs) (steps-front (opening_of s) bs xs n run) opening).good in

@@ -19,13 +19,17 @@ handle_to value handle = record { handle = handle; value = value }
 abbrev pub init_frame : Frame
 init_frame = frame_of cause.Init 0 0
 
+-- an environment of one addon and three texts
+abbrev pub small_environment : Environment
+small_environment = new_environment (record { addons = 1; texts = 3 })
+
 -- a heap in which one frame's own scope holds these handles, and two handles were issued
 abbrev pub holding : List OpenHandle → Heap
 holding hs = record new_heap { scopes = record { own = hs; opened = [] } ∷ []; handles = 2 }
 
 -- an environment with such a heap, and one frame
 abbrev pub in_init_frame : Heap → Environment
-in_init_frame heap = record (new_environment 1 3) { heap = heap; frames = init_frame ∷ [] }
+in_init_frame heap = record small_environment { heap = heap; frames = init_frame ∷ [] }
 
 -- two handles, of undefined and of null
 abbrev pub two_held : List OpenHandle
@@ -48,7 +52,7 @@ rooting value = record (in_init_frame (holding two_held)) { function_roots = rec
 
 -- an environment with so many frames, each with its scopes
 abbrev pub deep : ℕ → Environment
-deep n = record (new_environment 1 3) { heap = record new_heap { scopes = replicate n no_handles }; frames = replicate n init_frame }
+deep n = record small_environment { heap = record new_heap { scopes = replicate n no_handles }; frames = replicate n init_frame }
 
 -- near misses are not consistent
 pub record IsStrict : Type 0 where

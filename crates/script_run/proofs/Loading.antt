@@ -12,7 +12,7 @@ use Rattle.napi_types.specs.declared.op.Op.{Op}
 use Rattle.napi_types.specs.plain.Room.{most_entries}
 use Rattle.napi_types.specs.scripts.Plans.{Plan, plan_of, Registers, registers_of}
 use Rattle.napi_types.specs.scripts.Registers.{blank_registers}
-use Rattle.napi_types.specs.runs.Setting.{Setting}
+use Rattle.napi_types.specs.runs.Setting.{Setting, opens_with}
 use Rattle.napi_types.specs.all_runs.TurnsInOrder.{AroseByTurns}
 use Rattle.env_core.specs.Core.{Core, opened_core}
 use Rattle.shared_hub.specs.declared.naming.Numbers.{Numbers}
@@ -116,8 +116,9 @@ loaded-end given done rest first plans before registers l none =
 
 -- THE WHOLE RUN
 -- the registers of the other addons stay as they are
-pub others-stay : (count texts limit all : ℕ) (core : Core) (start : Run) (first loaded now : Registers) → core ≡ opened_core count texts limit
-    → start ≡ opened_run core → count ≡ all → drop start.core.env.addons now ≡ drop start.core.env.addons loaded → drop all loaded ≡ drop all first
+pub others-stay : (count texts limit all : ℕ) (core : Core) (start : Run) (first loaded now : Registers)
+    → core ≡ opened_core (record { addons = count; texts = texts }) limit → start ≡ opened_run core → count ≡ all
+    → drop start.core.env.addons now ≡ drop start.core.env.addons loaded → drop all loaded ≡ drop all first
     → drop all now ≡ drop all first
 others-stay count texts limit all core start first loaded now opens starts counted later earlier =
     let same : start.core.env.addons ≡ all = ap (λ (r : Run). r.core.env.addons) starts ∙ ap (λ (x : Core). x.env.addons) opens ∙ counted in
@@ -131,8 +132,8 @@ record BeginsWhole (s : Setting) (n : Numbers) (loaded : List Plan) (start : Run
   followed : IsFollowed s start [] all all.seen
 
 module _ (given : List AddonPlan) (handed loaded : List Plan) (texts count threads workers : ℕ) (n : Numbers) (core : Core) (start : Run) (all : AddonStates)
-    (enough : length given ≤ length handed) (counted : count ≡ length given) (opens : core ≡ opened_core count texts most_entries) (starts : start ≡ opened_run core)
-    (named : n ≡ hub_numbers threads workers) (plans : loaded ≡ told_plans given handed ++ drop (length given) handed)
+    (enough : length given ≤ length handed) (counted : count ≡ length given) (opens : core ≡ opened_core (record { addons = count; texts = texts }) most_entries)
+    (starts : start ≡ opened_run core) (named : n ≡ hub_numbers threads workers) (plans : loaded ≡ told_plans given handed ++ drop (length given) handed)
     (blank : (addon : ℕ) → addon < length given → registers_of all.registers addon ≡ blank_registers) where
   abbrev begun : Setting
   begun = setting_with (told_plans given handed) texts threads workers
@@ -141,7 +142,8 @@ module _ (given : List AddonPlan) (handed loaded : List Plan) (texts count threa
   begins =
       let told : List Plan = told_plans given handed in
       let as_many : length told ≡ length given = length-told given handed enough in
-      let opened : core ≡ opened_core (length told) texts most_entries = opens ∙ ap (λ k. opened_core k texts most_entries) (counted ∙ sym as_many) in
+      let opened : core ≡ opened_core (opens_with begun) most_entries =
+      opens ∙ ap (λ k. opened_core (record { addons = k; texts = texts }) most_entries) (counted ∙ sym as_many) in
       let cleared : (addon : ℕ) → addon < length told → registers_of all.registers addon ≡ blank_registers = λ addon below. blank addon (omega (arith, as_many, below)) in
       record {
         of = record {

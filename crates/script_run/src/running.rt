@@ -79,7 +79,7 @@ fn open<N: Naming>(
     requires threads { length threads ≤ 16 }
     requires scripts { All IsThreadScript threads }
     requires workers { workers ≤ 8 }
-    ensures env { IfOk result (λ opening. opening.env ≡ opened_run (opened_core addons texts most_entries)) }
+    ensures env { IfOk result (λ opening. opening.env ≡ opened_run (opened_core (record { addons = addons; texts = texts }) most_entries)) }
     ensures hub { IfOk result (λ opening. opening.hub ≡ hub_seen N.numbers []) }
     ensures actors { IfOk result (λ opening. opening.actors.items ≡ thread_runs 0 threads ++ worker_runs workers) }
 {

@@ -22,7 +22,7 @@ use Rattle.napi_types.specs.environment.Hooked.{is_late, IsHooked}
 use Rattle.napi_types.specs.environment.Moments.{is_tearing}
 use Rattle.napi_types.specs.hub.Hub.{stage_of}
 use Rattle.napi_types.specs.runs.Machine.{Machine}
-use Rattle.napi_types.specs.runs.Setting.{Setting, opening_of, final_of}
+use Rattle.napi_types.specs.runs.Setting.{Setting, opens_with, opening_of, final_of}
 use Rattle.napi_types.specs.runs.Step.{Step, step}
 use Rattle.napi_types.specs.runs.Run.{IsNext, IsRunBy, after}
 use Rattle.napi_types.proofs.parts.Books.{NoneRegistered, all_due-none}
@@ -189,7 +189,7 @@ along-orderly Q none more m bs xs h run =
     more m a bs x xs h next s k (rest k)) m bs xs run h
 
 pub orderly-opens : (s : Setting) → Orderly (opening_of s)
-orderly-opens s = record { stage = refl; hooked = hooked-opening (length s.plans) s.texts; settled = λ p. cc; spent = λ p. cc }
+orderly-opens s = record { stage = refl; hooked = hooked-opening (opens_with s); settled = λ p. cc; spent = λ p. cc }
 
 -- the step that comes next in a run
 pub next-case : (m : Machine) (a : Ask) (x : Entry) → Orderly m → IsNext m a x → StepCase m (step m a x)

@@ -27,7 +27,7 @@ use Rattle.napi_types.specs.environment.Changes.{opening_change, init_change, ca
 use Rattle.napi_types.specs.environment.Collection.{collected, is_freed}
 use Rattle.napi_types.specs.environment.Ends.{end_change}
 use Rattle.napi_types.specs.environment.Entering.{enter_change, asked_change}
-use Rattle.napi_types.specs.environment.Environment.{Environment, new_environment}
+use Rattle.napi_types.specs.environment.Environment.{Environment, OpenedWith, new_environment}
 use Rattle.napi_types.specs.environment.HookCalls.{hook_registration, hooking, unhooking}
 use Rattle.napi_types.specs.environment.Hooked.{is_late, StandsIn, HasFinalizer, IsHooked}
 use Rattle.napi_types.specs.environment.Registering.{finalizer_of, withdrawing}
@@ -211,13 +211,13 @@ none-given : (n : ℕ) (why : Cause) → cause_at [] n ≡ Some why → ⊥
 none-given zero why is = cc
 none-given (suc n) why is = cc
 
-pub hooked-opening : (addons texts : ℕ) → IsHooked (new_environment addons texts)
-hooked-opening addons texts = record {
+pub hooked-opening : (given : OpenedWith) → IsHooked (new_environment given)
+hooked-opening given = record {
   rise = tt;
   hooks = All-nil (StandsIn phase.Init []);
   others = λ early n hook is. absurd (none-given n cause.Hook hook);
   attached = λ n here. cc;
-  instances = All-replicate (HasFinalizer []) addons None tt;
+  instances = All-replicate (HasFinalizer []) given.addons None tt;
 }
 
 pub hooked-opened : (e : Environment) → IsHooked e → IsHooked (opening_change e).after

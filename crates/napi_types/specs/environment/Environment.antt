@@ -47,11 +47,16 @@ pub record Environment : Type 0 where
   -- the status of the last call
   pub last : Status
 
--- the environment of a script with so many addons and texts, before its opening
-abbrev pub new_environment : ℕ → ℕ → Environment
-new_environment addons texts = record {
-  addons = addons;
-  texts = texts;
+-- what an environment is opened with: how many addons and how many texts the script has. A further thing that opens one is a field here
+pub record OpenedWith : Type 0 where
+  pub addons : ℕ
+  pub texts : ℕ
+
+-- the environment that is opened with that, before its opening
+abbrev pub new_environment : OpenedWith → Environment
+new_environment given = record {
+  addons = given.addons;
+  texts = given.texts;
   opened = false;
   inits = 0;
   phase = phase.Init;
@@ -62,11 +67,15 @@ new_environment addons texts = record {
   attachments = no_attachments;
   book = [];
   hooks = [];
-  instances = replicate addons None;
+  instances = replicate given.addons None;
   function_roots = [];
   pending = None;
   last = status.Ok;
 }
+
+-- what an environment was opened with
+abbrev pub opened_with : Environment → OpenedWith
+opened_with e = record { addons = e.addons; texts = e.texts }
 
 -- an environment with another heap
 abbrev pub with_heap : Environment → Heap → Environment

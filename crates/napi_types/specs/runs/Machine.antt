@@ -1,7 +1,7 @@
 -- The environment and the hub together.
 use Rattle.std.specs.Prelude.{ℕ}
 use Rattle.napi_types.specs.declared.entry.Limits.{Limits}
-use Rattle.napi_types.specs.environment.Environment.{Environment, new_environment}
+use Rattle.napi_types.specs.environment.Environment.{Environment, OpenedWith, new_environment}
 use Rattle.napi_types.specs.hub.Hub.{Hub, new_hub}
 
 -- both states, how many entries the journal and the history have, and their limits
@@ -12,10 +12,10 @@ pub record Machine : Type 0 where
   pub history_length : ℕ
   pub limits : Limits
 
--- the opening state of a script with so many addons, texts, threads and workers
-abbrev pub opening : ℕ → ℕ → ℕ → ℕ → Limits → Machine
-opening addons texts threads workers limits = record {
-  env = new_environment addons texts;
+-- the opening state of a script whose environment is opened with that, and which has so many threads and workers
+abbrev pub opening : OpenedWith → ℕ → ℕ → Limits → Machine
+opening given threads workers limits = record {
+  env = new_environment given;
   hub = new_hub threads workers;
   journal_length = 0;
   history_length = 0;

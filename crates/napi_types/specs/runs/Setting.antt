@@ -5,6 +5,7 @@ use Rattle.napi_types.specs.declared.entry.Limits.{Limits}
 use Rattle.napi_types.specs.declared.entry.Phase.TheVariants as phase
 use Rattle.napi_types.specs.declared.call.Ask.{Ask}
 use Rattle.napi_types.specs.scripts.Plans.{Plan, Registers, loaded_registers}
+use Rattle.napi_types.specs.environment.Environment.{OpenedWith}
 use Rattle.napi_types.specs.runs.Machine.{Machine, opening}
 use Rattle.napi_types.specs.runs.Plan.{asked_along, registers_along}
 use Rattle.napi_types.specs.runs.Run.{IsRunBy, final}
@@ -17,9 +18,13 @@ pub record Setting : Type 0 where
   pub workers : ℕ
   pub limits : Limits
 
+-- what the environment of a run opens with
+abbrev pub opens_with : Setting → OpenedWith
+opens_with s = record { addons = length s.plans; texts = s.texts }
+
 -- the machine at the start of a run
 abbrev pub opening_of : Setting → Machine
-opening_of s = opening (length s.plans) s.texts s.threads s.workers s.limits
+opening_of s = opening (opens_with s) s.threads s.workers s.limits
 
 -- the machine after a run by these asks
 abbrev pub final_of : Setting → List Ask → List Entry → Machine

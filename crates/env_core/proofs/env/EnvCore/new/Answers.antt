@@ -1,17 +1,17 @@
 use Rattle.std.proofs.Common.{ℕ, ◌+◌, ◌-◌, ◌*◌, ◌≤◌, true, [], ◌∷◌, ◌++◌, arith}
 use Rattle.napi_types.specs.declared.entry.Entry.{Entry}
 use Rattle.napi_types.specs.plain.Room.{most_entries}
-use Rattle.napi_types.specs.environment.Environment.{new_environment}
+use Rattle.napi_types.specs.environment.Environment.{OpenedWith, new_environment}
 use Rattle.napi_types.proofs.environment.HookedSteps.{hooked-opening}
 use Rattle.env_core.specs.Core.{IsCore}
 use Rattle.env_core.proofs.env.EnvCore.new.Goals as goal
 
 -- an environment that was opened, with its one entry
-opened : (addons texts limit : ℕ) (entry : Entry) → 2 + 2 * addons ≤ limit → limit ≤ most_entries
-    → IsCore (record (new_environment addons texts) { opened = true })
-    (record { entries = [] ++ record { at = 0; entry = entry } ∷ []; promised = 2 + 2 * addons - 1; limit = limit; position = 0 })
-opened addons texts limit entry room most =
-    let h = hooked-opening addons texts in
+opened : (given : OpenedWith) (limit : ℕ) (entry : Entry) → 2 + 2 * given.addons ≤ limit → limit ≤ most_entries
+    → IsCore (record (new_environment given) { opened = true })
+    (record { entries = [] ++ record { at = 0; entry = entry } ∷ []; promised = 2 + 2 * given.addons - 1; limit = limit; position = 0 })
+opened given limit entry room most =
+    let h = hooked-opening given in
     record {
       reserved = omega arith;
       within = omega (arith, room);
@@ -27,4 +27,4 @@ opened addons texts limit entry room most =
 pub invariant_of-result : goal.invariant_of-result
 invariant_of-result c =
     rw (c.open.ensures.after, c.in_ok-state.ensures, c.push.ensures, c.in_ok-journal.ensures)
-    (opened c.args.addons c.args.texts c.args.limits.journal _ c.requires.room c.requires.most, tt)
+    (opened (record { addons = c.args.addons; texts = c.args.texts }) c.args.limits.journal _ c.requires.room c.requires.most, tt)
