@@ -1,7 +1,7 @@
 -- References as the machine sees them, and what the calls on them answer.
 use Rattle.std.proofs.Common.{◌≡◌, ℕ, ◌+◌, ◌-◌, ◌==◌, ◌||◌, Bool, true, false, cond, not, List, [], ◌∷◌, map, Option, Some, None, is_some, IsSome, IfSome, option_map, Result, Ok, Err, IfOk, IfErr, OnErr, refl, ap, sym, subst, ◌∙◌}
 use Rattle.std.specs.List.{list_all}
-use Rattle.std.specs.Option.{unwrap_or, option_or}
+use Rattle.std.specs.Option.{unwrap_or}
 use Rattle.std.specs.Result.{result_err}
 use Rattle.napi_types.specs.declared.call.Call.{Call}
 use Rattle.napi_types.specs.declared.call.Call.TheVariants as call
@@ -17,7 +17,6 @@ use Rattle.napi_types.specs.plain.Replies.{Answer, accepts, plain}
 use Rattle.napi_types.specs.parts.Graph.{StoreState, IsLive, number_in}
 use Rattle.napi_types.specs.parts.Heap.{Heap, handle_value}
 use Rattle.napi_types.specs.parts.HeapChanges.{with_handle, handle_of}
-use Rattle.napi_types.specs.parts.HeapRefusals.{refusal_in}
 use Rattle.napi_types.specs.parts.ReferenceRefusals.{references_of, count_refusal, reference_refusal}
 use Rattle.napi_types.specs.parts.References.{Reference, ReferenceMap, has_reference, reference_at, referred_value, reference_count, with_reference, without_reference, with_count}
 use Rattle.napi_types.specs.environment.Calls.{effect, answer_unless}
@@ -155,11 +154,11 @@ accepted-answers : (e : Environment) (s : StoreState) (m n : ReferenceMap) (c : 
 accepted-answers e s m n c o h k fresh is =
     accepted-timely (referring e s m) (referring e s n) c o (by-reference (referring e s m) c None (seen-refusal s m c ∙ sym h) k) fresh is
 
-pub made-answers : (e : Environment) (s : StoreState) (m n : ReferenceMap) (h : HandleId) (v count : ℕ) (r : RefId) → refusal_in e.texts e.heap (call.CreateReference h count) ≡ None
+pub made-answers : (e : Environment) (s : StoreState) (m n : ReferenceMap) (h : HandleId) (v count : ℕ) (r : RefId) → timely_refusal e (call.CreateReference h count) ≡ None
     → has_number r.0 (0 ∷ m.issued) ≡ false → number_in s v ≡ handle_value e.heap h.0 → n ≡ with_reference r.0 v count m
     → AnswersInTime (referring e s m) (call.CreateReference h count) (plain status.Ok (out.Ref r)) (referring e s n)
 made-answers e s m n h v count r none fresh is made =
-    accepted-answers e s m n (call.CreateReference h count) (out.Ref r) refl (ap (λ o. option_or o None) none) (ap not fresh)
+    accepted-answers e s m n (call.CreateReference h count) (out.Ref r) refl none (ap not fresh)
     (ap (λ w. accepts (out.Ref r) (record e { references = with_reference r.0 w count (references_seen s m) })) (sym is)
     ∙ ap (λ (x : ReferenceMap). accepts (out.Ref r) (record e { references = x })) (sym (ap (references_seen s) made ∙ seen-with s r.0 v count m)))
 

@@ -32,6 +32,7 @@ use Rattle.napi_types.specs.environment.Environment.{Environment}
 use Rattle.napi_types.specs.environment.Groups.{call_group}
 use Rattle.napi_types.specs.environment.HookCalls.{hook_refusal}
 use Rattle.napi_types.specs.environment.Moments.{moment_refusal}
+use Rattle.napi_types.specs.environment.ReferenceCalls.{referring_refusal}
 use Rattle.napi_types.specs.environment.Refusals.{timely_refusal, early_refusal, depth_refusal, refusal}
 use Rattle.napi_types.specs.environment.WrapCalls.{attachment_refusal}
 
@@ -171,9 +172,9 @@ pub record NamesReferencesAlone (e : Environment) (c : Call) : Type 0 where
 abbrev pub ReferencesAreNamedAlone : Type 0
 ReferencesAreNamedAlone = (e : Environment) (c : Call) → NamesReferencesAlone e c
 
--- the first refusal that the heap tells, or else that of what is attached to a value
+-- the first refusal that the heap tells, or else that of a value to which no reference is made, or that of what is attached to a value
 abbrev pub attached_refusal : Environment → Call → Option Status
-attached_refusal e c = option_or (refusal_in e.texts e.heap c) (attachment_refusal e.attachments e.heap c)
+attached_refusal e c = option_or (refusal_in e.texts e.heap c) (option_or (referring_refusal e c) (attachment_refusal e.attachments e.heap c))
 
 -- a call on hooks names no reference, no handle and no text, so it shows nowhere either whether the hooks are asked before all that or after it
 pub record NamesHooksAlone (e : Environment) (c : Call) : Type 0 where

@@ -5,7 +5,6 @@ ghost use Rattle.napi_types.specs.plain.Lists.{unless};
 ghost use Rattle.napi_types.specs.plain.Replies.{plain};
 ghost use Rattle.napi_types.specs.parts.Bodies.{is_referable as is_referable_body};
 ghost use Rattle.napi_types.specs.parts.Heap.{handle_body};
-ghost use Rattle.napi_types.specs.parts.HeapRefusals.{refusal_in};
 ghost use Rattle.napi_types.specs.environment.Refusals.{timely_refusal};
 ghost use Rattle.env_core.specs.State.{AnswersInTime};
 
@@ -36,7 +35,7 @@ impl State {
 
     /// Whether a reference may be made to the value of a handle: an open scope holds it, and the value is of a kind for that.
     fn may_refer_to(&self, handle: HandleId, count: u32) -> bool
-        ensures { unless result Status.InvalidArg ≡ refusal_in self.now.texts self.now.heap (call_of.CreateReference handle count) }
+        ensures { unless result Status.InvalidArg ≡ timely_refusal self.now (call_of.CreateReference handle count) }
     {
         self.holds(handle) && self.is_referable(handle)
     }

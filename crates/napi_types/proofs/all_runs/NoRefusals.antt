@@ -23,7 +23,7 @@ use Rattle.napi_types.specs.parts.Hooks.{Hook}
 use Rattle.napi_types.specs.parts.Kinds.{expects, expects_if}
 use Rattle.napi_types.specs.parts.NamedNumbers.{is_known, unknown_refusal}
 use Rattle.napi_types.specs.parts.PropertyCalls.{property_kinds, property_refusal}
-use Rattle.napi_types.specs.parts.ReferenceRefusals.{references_of, unknown_reference, count_refusal, referring_refusal}
+use Rattle.napi_types.specs.parts.ReferenceRefusals.{references_of, unknown_reference, count_refusal, reference_refusal}
 use Rattle.napi_types.specs.parts.References.{ReferenceMap, has_reference}
 use Rattle.napi_types.specs.parts.ScopeCalls.{scope_refusal}
 use Rattle.napi_types.specs.parts.ScopeRefusals.{has_scope, is_kind, closing, refuses_escape, escapable_scope}
@@ -34,6 +34,7 @@ use Rattle.napi_types.specs.environment.Environment.{Environment}
 use Rattle.napi_types.specs.environment.Groups.{call_group}
 use Rattle.napi_types.specs.environment.HookCalls.{hook_refusal}
 use Rattle.napi_types.specs.environment.Moments.{is_tearing, guard_refusal, registering_refusal, moment_refusal}
+use Rattle.napi_types.specs.environment.ReferenceCalls.{referring_refusal}
 use Rattle.napi_types.specs.environment.Refusals.{group_refusal, timely_refusal, early_refusal, depth_refusal, refusal}
 use Rattle.napi_types.specs.environment.WrapCalls.{attachment_refusal}
 use Rattle.napi_types.specs.all_runs.OnceLaws.{NoRefusalAccepts}
@@ -126,10 +127,6 @@ by-scope_row heap (call.CloseEscapableHandleScope s) = by-closing s.0 _ (opened_
 by-scope_row heap (call.EscapeHandle s _) = by-escaping (escapable_scope s.0 (opened_scopes heap.scopes))
 by-scope_row heap _ = tt
 
-by-reference_row : (heap : Heap) (c : Call) → Refuses (referring_refusal heap c)
-by-reference_row heap (call.CreateReference h _) = by-unless _ status.InvalidArg refl
-by-reference_row heap _ = tt
-
 by-wrap_row : (heap : Heap) (c : Call) → Refuses (wrap_refusal heap c)
 by-wrap_row heap (call.Wrap _ _ None _ wanted) = by-when wanted status.InvalidArg refl
 by-wrap_row heap _ = tt
@@ -146,7 +143,6 @@ by-row OnValues heap c = by-value_row heap c
 by-row OnProperties heap c = by-property_row heap c
 by-row OnFunctions heap c = by-function_row heap c
 by-row OnScopes heap c = by-scope_row heap c
-by-row OnReferences heap c = by-reference_row heap c
 by-row OnWraps heap c = by-wrap_row heap c
 by-row OnEntering heap c = by-function_row heap c
 by-row OnThreads heap c = by-function_row heap c
@@ -169,10 +165,16 @@ by-count m (call.ReferenceRef r) = by-when _ status.GenericFailure refl
 by-count m (call.ReferenceUnref r) = by-when _ status.GenericFailure refl
 by-count m _ = tt
 
+by-reference : (m : ReferenceMap) (c : Call) → Refuses (reference_refusal m c)
+by-reference m c =
+    either (unknown_reference m c) (count_refusal m c) (by-unless (list_all (has_reference m) (references_of c)) status.InvalidArg refl) (by-count m c)
+
+by-referring : (e : Environment) (c : Call) → Refuses (referring_refusal e c)
+by-referring e (call.CreateReference h _) = by-unless _ status.InvalidArg refl
+by-referring e _ = tt
+
 by-group : (g : CallGroup) (e : Environment) (c : Call) → Refuses ((call_group g).refuses e c)
-by-group OnReferences e c =
-    either (unknown_reference e.references c) (count_refusal e.references c)
-    (by-unless (list_all (has_reference e.references) (references_of c)) status.InvalidArg refl) (by-count e.references c)
+by-group OnReferences e c = either (referring_refusal e c) (reference_refusal e.references c) (by-referring e c) (by-reference e.references c)
 by-group OnWraps e c = by-attachment e.attachments e.heap c
 by-group OnHooks e c = by-hook (caller_of e.frames) e.hooks c
 by-group _ e c = tt

@@ -6,13 +6,13 @@ use Rattle.napi_types.specs.plain.Replies.{Answer}
 use Rattle.napi_types.specs.parts.HeapGroup.{HeapGroup}
 use Rattle.napi_types.specs.environment.Environment.{Environment, in_heap}
 
--- why a call of the group is refused by what stands beside the heap, and what it answers and leaves, where n is the number that it newly gives. Of a call of
+-- why a call of the group is refused beside what the heap tells, and what it answers and leaves, where n is the number that it newly gives. Of a call of
 -- another group nothing is told
 pub record Group : Type 0 where
   pub refuses : Environment → Call → Option Status
   pub answers : Environment → Call → ℕ → Option (Answer Environment)
 
--- a group that nothing beside the heap refuses
+-- a group that nothing refuses beside what the heap tells
 abbrev pub answering : (Environment → Call → ℕ → Option (Answer Environment)) → Group
 answering answers = record { refuses = λ e c. None; answers = answers }
 

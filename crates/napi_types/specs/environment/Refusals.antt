@@ -12,7 +12,7 @@ use Rattle.napi_types.specs.environment.Environment.{Environment}
 use Rattle.napi_types.specs.environment.Groups.{call_group_of}
 use Rattle.napi_types.specs.environment.Moments.{moment_refusal}
 
--- why the group of a call refuses it by what stands beside the heap: references, what is attached to values, or hooks
+-- why the group of a call refuses it beside what the heap tells: for a reference, for what is attached to a value, or for a hook
 abbrev pub group_refusal : Environment → Call → Option Status
 group_refusal e c = (call_group_of c).refuses e c
 

@@ -1,10 +1,9 @@
 -- The groups of calls, as far as the heap tells of them.
 use Rattle.napi_types.specs.declared.call.Call.{Call}
-use Rattle.napi_types.specs.plain.CallFacts.{CallGroup, OnValues, OnProperties, OnFunctions, OnScopes, OnReferences, OnWraps, OnEntering, OnThreads, OnVersion, group_of}
+use Rattle.napi_types.specs.plain.CallFacts.{CallGroup, OnValues, OnProperties, OnFunctions, OnScopes, OnWraps, OnEntering, OnThreads, OnVersion, group_of}
 use Rattle.napi_types.specs.parts.FunctionCalls.{functions_in_heap}
 use Rattle.napi_types.specs.parts.HeapGroup.{HeapGroup, untold_in_heap}
 use Rattle.napi_types.specs.parts.PropertyCalls.{properties_in_heap}
-use Rattle.napi_types.specs.parts.ReferenceRefusals.{references_in_heap}
 use Rattle.napi_types.specs.parts.ScopeCalls.{scopes_in_heap}
 use Rattle.napi_types.specs.parts.ValueCalls.{values_in_heap}
 use Rattle.napi_types.specs.parts.VersionCall.{version_in_heap}
@@ -16,7 +15,6 @@ heap_group OnValues = values_in_heap
 heap_group OnProperties = properties_in_heap
 heap_group OnFunctions = functions_in_heap
 heap_group OnScopes = scopes_in_heap
-heap_group OnReferences = references_in_heap
 heap_group OnWraps = wraps_in_heap
 heap_group OnEntering = functions_in_heap
 heap_group OnThreads = functions_in_heap

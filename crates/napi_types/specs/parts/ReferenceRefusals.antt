@@ -1,4 +1,4 @@
--- The refusals of the calls on references.
+-- The refusals of a call that names a reference.
 use Rattle.std.specs.List.{list_all}
 use Rattle.std.specs.Option.{option_or}
 use Rattle.std.specs.Prelude.{ℕ, ◌==◌, ◌&&◌, List, Option, None, is_some}
@@ -8,12 +8,8 @@ use Rattle.napi_types.specs.declared.call.Call.TheVariants as call
 use Rattle.napi_types.specs.declared.status.Status.TheVariants as status
 use Rattle.napi_types.specs.plain.CallFacts.{facts_of}
 use Rattle.napi_types.specs.plain.Lists.{when, unless}
-use Rattle.napi_types.specs.parts.Bodies.{is_referable}
-use Rattle.napi_types.specs.parts.Heap.{Heap, handle_body}
-use Rattle.napi_types.specs.parts.HeapGroup.{HeapGroup, untold_in_heap}
 use Rattle.napi_types.specs.parts.References.{ReferenceMap, has_reference, referred_value, reference_count, most_count}
 
--- REFERENCES
 -- the references that a call names. No call names a handle or a text beside one
 abbrev pub references_of : Call → List ℕ
 references_of c = (facts_of c).references
@@ -31,13 +27,3 @@ count_refusal m _ = None
 -- the first of both that applies
 abbrev pub reference_refusal : ReferenceMap → Call → Option Status
 reference_refusal m c = option_or (unknown_reference m c) (count_refusal m c)
-
--- WHAT THE HEAP TELLS
--- a reference is to an object, a function, an external or a symbol
-abbrev pub referring_refusal : Heap → Call → Option Status
-referring_refusal heap (call.CreateReference h _) = unless (is_referable (handle_body heap h.0)) status.InvalidArg
-referring_refusal heap _ = None
-
--- what the heap tells of these calls
-abbrev pub references_in_heap : HeapGroup
-references_in_heap = record untold_in_heap { refuses = referring_refusal }
