@@ -22,7 +22,7 @@ use Rattle.napi_types.specs.environment.Environment.{Environment}
 use Rattle.napi_types.specs.environment.SharedCalls.{handed_entry, after_shared}
 use Rattle.napi_types.specs.hub.HistoryLaws.{KeepsStanding}
 use Rattle.napi_types.specs.hub.HistoryRoom.{history_room}
-use Rattle.napi_types.specs.hub.Hub.{Hub, Stage}
+use Rattle.napi_types.specs.hub.Hub.{Hub, Stage, IsStageOf}
 use Rattle.napi_types.specs.hub.HubOwners.{IsOwnedHub}
 use Rattle.napi_types.specs.hub.HubSteps.{IsHubNext, hub_step, hub_along}
 use Rattle.napi_types.specs.runs.CallRoom.{room_of}
@@ -43,7 +43,6 @@ use Rattle.shared_hub.specs.declared.naming.Numbers.{Numbers}
 use Rattle.shared_hub.specs.HubStates.{HubSeen, AddsEntry, hub_room}
 use Rattle.shared_hub.specs.KeptHubs.{IsLedHub}
 use Rattle.shared_hub.specs.SharedTries.{given_by}
-use Rattle.env_teardown.specs.TeardownSteps.{Shows}
 use Rattle.env_loop.specs.FollowedRuns.{Asks, IsRecordedRun, taken_in, HasNumbers}
 use Rattle.env_loop.specs.HubTurns.{IsHubTurn}
 use Rattle.env_loop.specs.Recording.{AddonStates, machine_of, HasSeen, IsOf, IsRecorded, RecordsOwn}
@@ -165,8 +164,8 @@ answered-fits run c r before after running w fits adds keeps =
     let e : Environment = run.core.env in
     let alone = after_shared-alone c.call r e in
     record {
-      stage = subst (λ (p : Phase). Shows p after.hub.stage) (sym (ap (λ (x : Environment). x.phase) alone))
-          (subst (λ (s : Stage). Shows e.phase s) (sym keeps.stage) fits.stage);
+      stage = subst (λ (p : Phase). IsStageOf p after.hub.stage) (sym (ap (λ (x : Environment). x.phase) alone))
+          (subst (λ (s : Stage). IsStageOf e.phase s) (sym keeps.stage) fits.stage);
       standing = keeps.standing ∙ fits.standing;
       owned = subst (λ (k : ℕ). IsOwnedHub k after.hub) (sym (ap (λ (x : Environment). x.addons) alone))
           (subst (λ (h : Hub). IsOwnedHub e.addons h) (sym adds.hub)

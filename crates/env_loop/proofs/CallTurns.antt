@@ -23,7 +23,6 @@ use Rattle.napi_types.specs.scripts.Registers.{registers_after_reply}
 use Rattle.napi_types.specs.environment.Changes.{Change, number_of, is_fresh_result, call_change}
 use Rattle.napi_types.specs.environment.Entering.{enter_change, asked_change}
 use Rattle.napi_types.specs.environment.SharedCalls.{shared_call_of}
-use Rattle.napi_types.specs.hub.Hub.{stage_of}
 use Rattle.napi_types.specs.runs.CallRoom.{room_of}
 use Rattle.napi_types.specs.runs.Machine.{Machine}
 use Rattle.napi_types.specs.runs.Plan.{caller_after_reply, with_addon_gifts, with_callee_gifts}
@@ -42,7 +41,7 @@ use Rattle.env_loop.specs.FollowedRuns.{Asks}
 use Rattle.env_loop.specs.Recording.{AddonStates, machine_of, HasSeen, IsRecorded, Continues}
 use Rattle.env_loop.specs.RecordedRuns.{Run, IsSoundEnvironment, Holds, IsRunning}
 use Rattle.env_loop.specs.Turns.{IsTold, OnlyInnermostChanges, IsTurn, OwesMore}
-use Rattle.env_loop.proofs.LocalGoing.{if_some-none, local-goes}
+use Rattle.env_loop.proofs.LocalGoing.{if_some-none, local-goes, stages-same}
 use Rattle.env_loop.proofs.MadeTurns.{running-idle, states-same, made-turn}
 use Rattle.env_loop.proofs.Recordings.{own-grown}
 use Rattle.env_loop.proofs.TurnSteps.{TellsNoFrame, reply-tells, call-next, same-room}
@@ -96,7 +95,8 @@ asked-turn {ps} {old} {all} {f} {a} i c n change new now idle unended same made 
     let Q : Core → Type 0 = λ x. Continues ps old.core all x now in
     let P : Option DueInfo → Type 0 = λ d. HasSeen all.seen (option_to_list d) now.seen in
     made-turn ps old (record old { core = new }) all now change made idle unended refl
-    (ap (λ (x : Change). x.after.addons) (sym same) ∙ course.addons) (ap (λ (x : Change). stage_of x.after.phase) (sym same) ∙ ap stage_of course.phase)
+    (ap (λ (x : Change). x.after.addons) (sym same) ∙ course.addons)
+    (stages-same e.phase change.after.phase (ap (λ (x : Change). x.after.phase) (sym same) ∙ course.phase))
     others untouched
     (subst P (sym (begins-none e (in-some i))) (seen-same all.seen now.seen unseen))
     (local-goes ps old (record old { core = new }) all now (subst Q (sym made) goes) unended (ap (λ (x : Core). x.awaited) made ∙ idle) unended)

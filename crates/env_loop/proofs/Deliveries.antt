@@ -12,7 +12,7 @@ use Rattle.napi_types.specs.parts.Frames.{Frame, is_hub_duty, frame_of_duty, beg
 use Rattle.napi_types.specs.scripts.Plans.{Plan}
 use Rattle.napi_types.specs.environment.Environment.{Environment}
 use Rattle.napi_types.specs.environment.SharedCalls.{after_delivery}
-use Rattle.napi_types.specs.hub.Hub.{Hub}
+use Rattle.napi_types.specs.hub.Hub.{Hub, IsStageOf}
 use Rattle.napi_types.specs.hub.HubEvents.{delivery_entry, begin_step}
 use Rattle.napi_types.specs.hub.HubMoves.{Delivers, hub_move}
 use Rattle.napi_types.specs.hub.HubOwners.{IsOwnedHub}
@@ -32,7 +32,6 @@ use Rattle.env_core.specs.Core.{Core}
 use Rattle.env_core.specs.Sharing.{after_hub_begin}
 use Rattle.shared_hub.specs.HubStates.{HubSeen, AddsEntry}
 use Rattle.shared_hub.specs.declared.naming.Numbers.{Numbers}
-use Rattle.env_teardown.specs.TeardownSteps.{Shows}
 use Rattle.env_loop.specs.HubTurns.{IsHubTurn, DeliversAt}
 use Rattle.env_loop.specs.RecordedRuns.{Run, owes_hub, IsSoundEnvironment, IsRunning, FitsHub}
 use Rattle.env_loop.specs.Recording.{AddonStates, machine_of}
@@ -130,7 +129,7 @@ turn-of_delivery n plans run new before after all now d at next move adds regist
     let ours : is_hub_duty (Some d.duty) ≡ true = (delivery-of_hub h d move).ours in
     let fits : FitsHub (after_hub_event run (after_delivery d run.core.env) (length after.history) (Some d)) after = record {
       stage =
-          subst (Shows run.core.env.phase) (sym (ap (λ (k : Hub). k.stage) adds.hub ∙ ap (λ o. (begin_step h x o).after.stage) move ∙ duty-stage d.duty h))
+          subst (IsStageOf run.core.env.phase) (sym (ap (λ (k : Hub). k.stage) adds.hub ∙ ap (λ o. (begin_step h x o).after.stage) move ∙ duty-stage d.duty h))
           at.fits.stage;
       standing = ap (λ (k : Hub). k.standing) adds.hub ∙ ap (λ o. (begin_step h x o).after.standing) move ∙ sym (ap (λ b. cond b (Some d) None) ours);
       owned = subst (λ k. IsOwnedHub run.core.env.addons k) (sym adds.hub) (event-owned run.core.env.addons h x host.Begin at.fits.owned);

@@ -23,7 +23,7 @@ use Rattle.napi_types.specs.scripts.Registers.{registers_after_reply}
 use Rattle.napi_types.specs.environment.Changes.{Change, may_ask}
 use Rattle.napi_types.specs.environment.Ends.{end_change}
 use Rattle.napi_types.specs.environment.Environment.{Environment}
-use Rattle.napi_types.specs.hub.Hub.{stage_of, Hub}
+use Rattle.napi_types.specs.hub.Hub.{Hub}
 use Rattle.napi_types.specs.hub.HubSteps.{hub_along}
 use Rattle.napi_types.specs.runs.InPlace.{is_behind_own, asks_hub, is_stopped, stands_in_place, last_actor}
 use Rattle.napi_types.specs.runs.Machine.{Machine}
@@ -46,7 +46,7 @@ use Rattle.env_loop.specs.FollowedRuns.{Asks, StoppedAtHub, MayEndSo, IsRecorded
 use Rattle.env_loop.specs.Recording.{AddonStates, machine_of, HasSeen, IsOf, IsRecorded, RecordsOwn}
 use Rattle.env_loop.specs.RecordedRuns.{Run, IsSoundEnvironment, Holds, IsRunning, cut_at}
 use Rattle.env_loop.specs.Turns.{IsTold, OnlyInnermostChanges, IsTurn, OwesMore, MatchTurn, turn_after, EndsHere, EndsOrOwes}
-use Rattle.env_loop.proofs.LocalGoing.{if_some-none}
+use Rattle.env_loop.proofs.LocalGoing.{if_some-none, stages-same}
 use Rattle.env_loop.proofs.MadeTurns.{none-there, running-idle, states-same, turn-made, turn-owes, made-turn}
 use Rattle.env_loop.proofs.Recordings.{local-grown}
 use Rattle.env_loop.proofs.TurnSteps.{leave-next, cut-next, by-env, ended-untold}
@@ -160,7 +160,7 @@ ended-turn ps old new all now v how i local here same =
     let there : All (λ g. g.addon < e.addons) (callers_of e) = tail-below e.addons e.frames i.sound.owned.frames in
     let U : List Frame → Type 0 = λ l. OnlyInnermostChanges e.frames l all.registers now.registers in
     let P : Option DueInfo → Type 0 = λ d. HasSeen all.seen (option_to_list d) now.seen in
-    made-turn ps old new all now change here.ended i.idle here.ending here.begun course.addons (ap stage_of course.phase)
+    made-turn ps old new all now change here.ended i.idle here.ending here.begun course.addons (stages-same e.phase change.after.phase course.phase)
     (told-others e.addons ps all.registers now.registers (callers_of e) change.entry.reply there here.told)
     (subst U (sym k.frames) (caller-touched ps all.registers now.registers e.frames (tail e.frames) change.entry.reply i.some here.told))
     (subst P (sym (begins-none e i.some)) (seen-same all.seen now.seen same))

@@ -15,7 +15,7 @@ use Rattle.napi_types.specs.declared.entry.What.TheVariants as what
 use Rattle.napi_types.specs.parts.Frames.{Frame, duty_of, is_hub_duty}
 use Rattle.napi_types.specs.scripts.Plans.{Plan, Registers}
 use Rattle.napi_types.specs.environment.Environment.{Environment}
-use Rattle.napi_types.specs.hub.Hub.{Hub}
+use Rattle.napi_types.specs.hub.Hub.{Hub, IsStageOf}
 use Rattle.napi_types.specs.hub.HubMoves.{is_spent}
 use Rattle.napi_types.specs.hub.HubSteps.{IsHubNext, hub_step, hub_along}
 use Rattle.napi_types.specs.runs.Begins.{told_at}
@@ -31,7 +31,6 @@ use Rattle.env_core.specs.Core.{Core}
 use Rattle.shared_hub.specs.HubStates.{HubSeen, AddsEntry}
 use Rattle.shared_hub.specs.KeptHubs.{IsLedHub}
 use Rattle.shared_hub.specs.declared.naming.Numbers.{Numbers}
-use Rattle.env_teardown.specs.TeardownSteps.{Shows}
 use Rattle.env_loop.specs.FollowedRuns.{IsRecordedRun, IsFollowed, taken_in, HasNumbers, GoesOnAt}
 use Rattle.env_loop.specs.HubTurns.{SpentAtFinals, IsHubTurn, MatchHubTurn}
 use Rattle.env_loop.specs.RecordedRuns.{Run, owes_hub, IsRunning, FitsHub}
@@ -128,8 +127,8 @@ at-hub n run old seen same running unowed needs led fits =
     let rest : AtRest run = rests run running unowed_here (needs-none run.core.env.frames run.core.env (unowed-needs run unowed_here needs_here)) in
     record { running = running; rest = rest; needs = local-needs run rest needs_here; led = led; fits = fits_here }
 
-pub far-in : (n : Numbers) (run : Run) (seen : HubSeen) (p : Phase) → AtHub n run seen → run.core.env.phase ≡ p → Shows p seen.hub.stage
-far-in n run seen p at here = subst (λ q. Shows q seen.hub.stage) here at.fits.stage
+pub far-in : (n : Numbers) (run : Run) (seen : HubSeen) (p : Phase) → AtHub n run seen → run.core.env.phase ≡ p → IsStageOf p seen.hub.stage
+far-in n run seen p at here = subst (λ q. IsStageOf q seen.hub.stage) here at.fits.stage
 
 -- WHAT AN EVENT IS
 -- the registers after it: the gifts of the duty go to the addon whose frame it begins, where it begins one

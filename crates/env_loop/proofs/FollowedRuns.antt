@@ -19,7 +19,7 @@ use Rattle.napi_types.specs.environment.Changes.{may_call}
 use Rattle.napi_types.specs.environment.JournalRoom.{journal_room}
 use Rattle.napi_types.specs.hub.HistoryLaws.{KeepsHub, LeadsTo, GoesOnBehind, StaysPressed}
 use Rattle.napi_types.specs.hub.HistoryRoom.{history_room}
-use Rattle.napi_types.specs.hub.Hub.{Hub}
+use Rattle.napi_types.specs.hub.Hub.{Hub, IsStageOf}
 use Rattle.napi_types.specs.hub.HubOwners.{IsOwnedHub}
 use Rattle.napi_types.specs.hub.HubSteps.{hub_along, hub_step}
 use Rattle.napi_types.specs.hub.Replays.{HubReplays}
@@ -34,7 +34,6 @@ use Rattle.napi_types.proofs.all_runs.Joining.{others-join}
 use Rattle.napi_types.proofs.all_runs.LedHubs.{fronts-join}
 use Rattle.env_core.specs.Core.{Core}
 use Rattle.shared_hub.specs.HubStates.{HubSeen, AddsEntry}
-use Rattle.env_teardown.specs.TeardownSteps.{Shows}
 use Rattle.env_loop.specs.declared.run.FrameEnd.{FrameEnd}
 use Rattle.env_loop.specs.declared.run.FrameEnd.TheVariants as end
 use Rattle.env_loop.specs.Recording.{AddonStates, machine_of, HasSeen, IsRecorded}
@@ -160,7 +159,7 @@ others-may-add s run history rest all firsts f added = record {
 -- a run fits with its hub as another actor goes on
 pub fitting-runs-stand : FittingRunsStand
 fitting-runs-stand r before after x fits other adds = record {
-  stage = subst (Shows r.core.env.phase) (sym (ap (λ (h : Hub). h.stage) adds.hub ∙ kept.standing.stage)) fits.stage;
+  stage = subst (IsStageOf r.core.env.phase) (sym (ap (λ (h : Hub). h.stage) adds.hub ∙ kept.standing.stage)) fits.stage;
   standing = ap (λ (h : Hub). h.standing) adds.hub ∙ kept.standing.standing ∙ fits.standing;
   owned = subst (IsOwnedHub r.core.env.addons) (sym adds.hub) (kept.owned r.core.env.addons fits.owned);
   noted = omega (arith, fits.noted, ap length adds.history ∙ length-append before.history (one x));

@@ -5,7 +5,7 @@ use Rattle.napi_types.specs.declared.entry.Phase.TheVariants as phase
 use Rattle.napi_types.specs.parts.Pool.{executed_by}
 use Rattle.napi_types.specs.hub.ActorLaws.{worker_at}
 use Rattle.napi_types.specs.hub.Actors.{Working, Over}
-use Rattle.napi_types.specs.hub.Hub.{Before}
+use Rattle.napi_types.specs.hub.Hub.{Before, IsStageOf}
 use Rattle.napi_types.specs.hub.WorkerSteps.{is_worker_there}
 use Rattle.napi_types.proofs.hub.ServingWorkers.{executing-workers-are-there}
 use Rattle.napi_types.proofs.all_runs.WorkersStand.{workers-stand-as-the-hub-says}
@@ -14,13 +14,13 @@ use Rattle.shared_hub.specs.declared.naming.Numbers.{Numbers}
 use Rattle.env_loop.specs.ActorRuns.{IsThreadOf, WorkerSeen, IsWorkerOf, HeldWork, NoWork, Started, Executed, IsHeld, IsHandsFree, worker_state}
 use Rattle.env_loop.specs.FreshAndEnded.{FreshActorsStand, EndedActorsHoldNoWork}
 use Rattle.env_loop.specs.OpenedAndGone.{OpenedRunsFit}
-use Rattle.env_loop.specs.RecordedRuns.{FitsHub, Shows, hub_begun}
+use Rattle.env_loop.specs.RecordedRuns.{FitsHub, hub_begun}
 use Rattle.env_loop.specs.RunsOverRows.{IsReplayed}
 use Rattle.env_loop.specs.declared.actor.ActorRun.TheVariants as run
 
 pub opened-runs-fit : OpenedRunsFit
 opened-runs-fit n r opened = record {
-  stage = subst (λ p. Shows p Before) (sym first) refl;
+  stage = subst (λ p. IsStageOf p Before) (sym first) refl;
   standing = ap hub_begun (sym begun);
   owned = record { works = All-nil _; functions = All-nil _ };
   noted = omega (arith, start);

@@ -18,14 +18,13 @@ use Rattle.napi_types.specs.environment.Owners.{IsOwned}
 use Rattle.napi_types.specs.environment.Refusals.{refusal}
 use Rattle.napi_types.specs.environment.SharedCalls.{target_of, target_unless}
 use Rattle.napi_types.specs.hub.GivenSteps.{is_looped, is_failure, is_timely}
-use Rattle.napi_types.specs.hub.Hub.{Stage}
+use Rattle.napi_types.specs.hub.Hub.{Stage, IsStageOf}
 use Rattle.napi_types.specs.hub.HubCalls.{no_target}
 use Rattle.napi_types.proofs.plain.Lists.{none-first, not-unless}
 use Rattle.napi_types.proofs.environment.Handed.{shared-refusals}
 use Rattle.napi_types.proofs.environment.Owners.{body-owned, caller-owned, row-unrefused}
 use Rattle.napi_types.proofs.hub.HubOwners.{is_creating_call, GivesOwned}
 use Rattle.shared_hub.specs.SharedTries.{given_by, IsOwnRefusal}
-use Rattle.env_teardown.specs.TeardownSteps.{Shows}
 use Rattle.env_loop.specs.RecordedRuns.{IsAwaited}
 
 -- the environment refuses it with 1 or with 9, where it refuses it
@@ -34,7 +33,7 @@ own-refusal e c w = subst (λ (s : SharedCall). IsOwnRefusal s.refused) (sym w.h
 
 -- THE MOMENT
 -- once the loop has ended the environment is in its teardown
-torn : (p : Phase) (s : Stage) → Shows p s → is_looped s ≡ true → is_tearing p ≡ true
+torn : (p : Phase) (s : Stage) → IsStageOf p s → is_looped s ≡ true → is_tearing p ≡ true
 torn phase.Init s shows looped = let no : false ≡ true = sym (ap is_looped shows) ∙ looped in cc
 torn phase.Live s shows looped = let no : false ≡ true = sym (ap is_looped shows) ∙ looped in cc
 torn phase.Hooks s shows looped = refl
@@ -62,7 +61,7 @@ allows true true failed fails = fails refl refl
 allows true false failed fails = refl
 allows false registers failed fails = refl
 
-pub is-timely : (e : Environment) (s : Stage) (c : SharedCall) → IsAwaited e c → Shows e.phase s → IsTrue (is_timely s c.call c.refused)
+pub is-timely : (e : Environment) (s : Stage) (c : SharedCall) → IsAwaited e c → IsStageOf e.phase s → IsTrue (is_timely s c.call c.refused)
 is-timely e s c w shows =
     subst (λ (x : SharedCall). IsTrue (is_timely s c.call x.refused)) (sym w.handed)
     (allows (is_looped s) (is_registering c.call) (is_failure (refusal e c.call))

@@ -2,14 +2,12 @@
 use Rattle.std.proofs.Common.{◌≡◌, ◌≤◌, ℕ, List, length, Option, None, IfSome, subst, sym, ◌∙◌}
 use Rattle.napi_types.specs.declared.entry.Entry.{Entry}
 use Rattle.napi_types.specs.declared.entry.Phase.{Phase}
-use Rattle.napi_types.specs.declared.entry.Phase.TheVariants as phase
 use Rattle.napi_types.specs.scripts.Plans.{Plan}
-use Rattle.napi_types.specs.hub.Hub.{Stage, stage_of}
+use Rattle.napi_types.specs.hub.Hub.{Stage, IsStageOf}
 use Rattle.napi_types.specs.hub.HubOwners.{IsOwnedHub}
 use Rattle.napi_types.specs.hub.HubSteps.{hub_along}
 use Rattle.napi_types.specs.runs.Setting.{opening_of}
 use Rattle.shared_hub.specs.HubStates.{HubSeen}
-use Rattle.env_teardown.specs.TeardownSteps.{Shows}
 use Rattle.env_loop.specs.Recording.{AddonStates, RecordsOwn, Continues}
 use Rattle.env_loop.specs.RecordedRuns.{Run, hub_begun, FitsHub}
 use Rattle.env_loop.specs.FollowedRuns.{RunGoesOn}
@@ -38,31 +36,22 @@ local-goes plans old new all now turn free idle unended history = λ s firsts of
     }
 
 -- THE HUB BESIDE IT
--- a hub shows a phase where it is at the stage of that phase
-shows-of : (p : Phase) (st : Stage) → st ≡ stage_of p → Shows p st
-shows-of phase.Init st is = is
-shows-of phase.Live st is = is
-shows-of phase.Hooks st is = is
-shows-of phase.Drain st is = is
-shows-of phase.Finals st is = is
-shows-of phase.Gone st is = is
+-- each stage of the first phase is one of the second
+abbrev pub KeepsStages : Phase → Phase → Type 0
+KeepsStages p q = (s : Stage) → IsStageOf p s → IsStageOf q s
 
-stage-shown : (p : Phase) (st : Stage) → Shows p st → st ≡ stage_of p
-stage-shown phase.Init st shows = shows
-stage-shown phase.Live st shows = shows
-stage-shown phase.Hooks st shows = shows
-stage-shown phase.Drain st shows = shows
-stage-shown phase.Finals st shows = shows
-stage-shown phase.Gone st shows = shows
+-- so it is where they are the same phase
+pub stages-same : (p q : Phase) → q ≡ p → KeepsStages p q
+stages-same p q same = λ s is. subst (λ r. IsStageOf r s) (sym same) is
 
--- a run fits with the same hubs where its stage, its addons, its position and the hub's duty whose frame stands are as before
-pub fits-local : (old new : Run) → stage_of new.core.env.phase ≡ stage_of old.core.env.phase → hub_begun new.begun ≡ hub_begun old.begun
+-- a run fits with the same hubs where the stages of its phase, its addons, its position and the hub's duty whose frame stands are as before
+pub fits-local : (old new : Run) → KeepsStages old.core.env.phase new.core.env.phase → hub_begun new.begun ≡ hub_begun old.begun
     → new.core.env.addons ≡ old.core.env.addons → new.core.position ≡ old.core.position → (seen : HubSeen) → FitsHub old seen → FitsHub new seen
-fits-local old new stage begun addons position seen f =
+fits-local old new keeps begun addons position seen f =
     let O : ℕ → Type 0 = λ n. IsOwnedHub n seen.hub in
     let N : ℕ → Type 0 = λ n. n ≤ length seen.history in
     record {
-      stage = shows-of new.core.env.phase seen.hub.stage (stage-shown old.core.env.phase seen.hub.stage f.stage ∙ sym stage);
+      stage = keeps seen.hub.stage f.stage;
       standing = f.standing ∙ sym begun;
       owned = subst O (sym addons) f.owned;
       noted = subst N (sym position) f.noted;

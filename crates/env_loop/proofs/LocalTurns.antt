@@ -10,7 +10,6 @@ use Rattle.napi_types.specs.parts.Frames.{Frame, duty_of, is_hub_duty}
 use Rattle.napi_types.specs.scripts.Plans.{Plan, Registers}
 use Rattle.napi_types.specs.environment.Environment.{Environment}
 use Rattle.napi_types.specs.environment.JournalRoom.{gone_place}
-use Rattle.napi_types.specs.hub.Hub.{stage_of}
 use Rattle.napi_types.specs.runs.Choice.{local_choice_in}
 use Rattle.env_core.specs.Core.{Core, room_in}
 use Rattle.shared_hub.specs.HubStates.{HubSeen}
@@ -22,7 +21,7 @@ use Rattle.env_loop.specs.RecordedRuns.{Run, IsSoundEnvironment, IsAwaited, IsOw
 use Rattle.env_loop.specs.FollowedRuns.{IsFollowed, RunGoesOn}
 use Rattle.env_loop.specs.Turns.{event_turn, turn_at, turn_after, begins_next, OnlyInnermostChanges, IsTurn, OwesAlone, OwesMore, IsSame, MatchTurn, EndsSo, EndsOrOwes}
 use Rattle.env_loop.proofs.CutTurns.{unowed-local}
-use Rattle.env_loop.proofs.LocalGoing.{fits-local}
+use Rattle.env_loop.proofs.LocalGoing.{stages-same, fits-local}
 use Rattle.env_loop.proofs.SeenLists.{begins-none, seen-stays}
 
 -- WHERE SOMETHING IS OWED
@@ -150,7 +149,8 @@ module _ (t : LocalTurn) (ps : List Plan) (old new : Run) (all now : AddonStates
     free = λ before owes. o.free;
     same = λ un. o.same;
     goes = o.goes;
-    fits = fits-local old new (ap (λ (c : Core). stage_of c.env.phase) o.core) (ap hub_begun o.begun) (ap (λ (c : Core). c.env.addons) o.core) (ap (λ (c : Core). c.position) o.core);
+    fits = fits-local old new (stages-same old.core.env.phase new.core.env.phase (ap (λ (c : Core). c.env.phase) o.core)) (ap hub_begun o.begun)
+        (ap (λ (c : Core). c.env.addons) o.core) (ap (λ (c : Core). c.position) o.core);
     others = ap (λ (x : AddonStates). drop old.core.env.addons x.registers) o.same;
     addons = ap (λ (c : Core). c.env.addons) o.core;
     limit = ap (λ (c : Core). c.limit) o.core;

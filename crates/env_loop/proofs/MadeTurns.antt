@@ -8,7 +8,6 @@ use Rattle.napi_types.specs.parts.Frames.{Frame, duty_of, is_hub_duty}
 use Rattle.napi_types.specs.scripts.Plans.{Plan}
 use Rattle.napi_types.specs.environment.Changes.{Change}
 use Rattle.napi_types.specs.environment.Environment.{Environment}
-use Rattle.napi_types.specs.hub.Hub.{stage_of}
 use Rattle.env_core.specs.Core.{Core, after_change}
 use Rattle.env_loop.specs.declared.run.FrameEnd.{FrameEnd}
 use Rattle.env_loop.specs.declared.turn.LocalTurn.TheVariants as turn
@@ -16,7 +15,7 @@ use Rattle.env_loop.specs.FollowedRuns.{RunGoesOn}
 use Rattle.env_loop.specs.Recording.{AddonStates, HasSeen}
 use Rattle.env_loop.specs.RecordedRuns.{Run, IsSoundEnvironment, Holds, IsRunning, hub_begun, owes_hub}
 use Rattle.env_loop.specs.Turns.{turn_of, turn_after, begins_next, OnlyInnermostChanges, IsTurn}
-use Rattle.env_loop.proofs.LocalGoing.{if_some-none, fits-local}
+use Rattle.env_loop.proofs.LocalGoing.{if_some-none, KeepsStages, fits-local}
 
 -- what is not there is none
 pub none-there : {A : Type 0} (o : Option A) → is_some o ≡ false → o ≡ None
@@ -70,21 +69,22 @@ turn-owes new e owes = ap (λ b. cond b turn.NeedsHub (turn_of e)) owes
 -- a turn that writes down a change
 pub made-turn : (ps : List Plan) (old new : Run) (all now : AddonStates) (change : Change) → new.core ≡ after_change change old.core → old.core.awaited ≡ None
     → new.ending ≡ None
-    → hub_begun new.begun ≡ hub_begun old.begun → change.after.addons ≡ old.core.env.addons → stage_of change.after.phase ≡ stage_of old.core.env.phase
+    → hub_begun new.begun ≡ hub_begun old.begun → change.after.addons ≡ old.core.env.addons → KeepsStages old.core.env.phase change.after.phase
     → drop old.core.env.addons now.registers ≡ drop old.core.env.addons all.registers
     → OnlyInnermostChanges old.core.env.frames change.after.frames all.registers now.registers
     → HasSeen all.seen (option_to_list (begins_next old.core.env)) now.seen
     → ((history : List Entry) → RunGoesOn ps old history all new history now)
     → IsTurn ps old all new now
-made-turn ps old new all now change made idle unended begun addons stage others untouched seen goes =
+made-turn ps old new all now change made idle unended begun addons stages others untouched seen goes =
     let U : Core → Type 0 = λ c. OnlyInnermostChanges old.core.env.frames c.env.frames all.registers now.registers in
+    let K : Core → Type 0 = λ c. KeepsStages old.core.env.phase c.env.phase in
     record {
       others = others;
       untouched = subst U (sym made) untouched;
       seen = seen;
       kept = record {
         addons = ap (λ (c : Core). c.env.addons) made ∙ addons;
-        fits = fits-local old new (ap (λ (c : Core). stage_of c.env.phase) made ∙ stage) begun (ap (λ (c : Core). c.env.addons) made ∙ addons)
+        fits = fits-local old new (subst K (sym made) stages) begun (ap (λ (c : Core). c.env.addons) made ∙ addons)
             (ap (λ (c : Core). c.position) made);
         limit = ap (λ (c : Core). c.limit) made;
         position = ap (λ (c : Core). c.position) made;

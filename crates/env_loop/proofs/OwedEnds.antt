@@ -21,7 +21,7 @@ use Rattle.napi_types.specs.scripts.Plans.{Plan, Registers}
 use Rattle.napi_types.specs.environment.Changes.{Change, may_ask}
 use Rattle.napi_types.specs.environment.Ends.{end_out, outermost_end_change, end_change_by, end_change}
 use Rattle.napi_types.specs.environment.Environment.{Environment}
-use Rattle.napi_types.specs.hub.Hub.{Hub, Stage}
+use Rattle.napi_types.specs.hub.Hub.{Hub, Stage, IsStageOf}
 use Rattle.napi_types.specs.hub.HubEvents.{is_frame_end}
 use Rattle.napi_types.specs.hub.HubOwners.{IsOwnedHub}
 use Rattle.napi_types.specs.hub.HubSteps.{IsHubNext, hub_step, hub_along}
@@ -39,7 +39,6 @@ use Rattle.env_core.specs.Sharing.{after_hub_end}
 use Rattle.shared_hub.specs.declared.naming.Numbers.{Numbers}
 use Rattle.shared_hub.specs.HubStates.{HubSeen, KeepsStage, AddsEntry}
 use Rattle.shared_hub.specs.KeptHubs.{IsLedHub}
-use Rattle.env_teardown.specs.TeardownSteps.{Shows}
 use Rattle.env_loop.specs.declared.run.FrameEnd.{FrameEnd}
 use Rattle.env_loop.specs.declared.run.FrameEnd.TheVariants as end
 use Rattle.env_loop.specs.FollowedRuns.{Asks, MayEndSo, IsRecordedRun, taken_in, HasNumbers}
@@ -203,7 +202,7 @@ ended-fits : (run : Run) (how : FrameEnd) (before after : HubSeen) → FitsHub r
     → KeepsStage before.hub after.hub
     → after.hub.standing ≡ None → FitsHub (ended_run run how (length after.history)) after
 ended-fits run how before after fits adds keeps alone = record {
-  stage = subst (λ (t : Stage). Shows run.core.env.phase t) (sym keeps.stage) fits.stage;
+  stage = subst (λ (t : Stage). IsStageOf run.core.env.phase t) (sym keeps.stage) fits.stage;
   standing = alone;
   owned = subst (λ (h : Hub). IsOwnedHub run.core.env.addons h) (sym adds.hub)
       (event-owned run.core.env.addons before.hub (end_entry how run.core.env) host.End fits.owned);

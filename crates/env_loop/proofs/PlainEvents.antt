@@ -14,7 +14,7 @@ use Rattle.napi_types.specs.scripts.Plans.{Plan}
 use Rattle.napi_types.specs.environment.Changes.{in_phase}
 use Rattle.napi_types.specs.environment.Environment.{Environment}
 use Rattle.napi_types.specs.environment.SharedCalls.{without_root}
-use Rattle.napi_types.specs.hub.Hub.{Hub, Before, Going, Looped, Drained, stage_after}
+use Rattle.napi_types.specs.hub.Hub.{Hub, Before, Going, Looped, Drained, stage_after, IsStageOf}
 use Rattle.napi_types.specs.hub.HubEvents.{close_step, finish_step}
 use Rattle.napi_types.specs.hub.HubMoves.{Closes, Finishes, hub_move, is_spent}
 use Rattle.napi_types.specs.hub.HubOwners.{IsOwnedHub}
@@ -29,7 +29,6 @@ use Rattle.env_core.specs.Core.{Core, after_phase, at_position}
 use Rattle.env_core.specs.Sharing.{after_finish}
 use Rattle.shared_hub.specs.HubStates.{HubSeen, AddsEntry}
 use Rattle.shared_hub.specs.declared.naming.Numbers.{Numbers}
-use Rattle.env_teardown.specs.TeardownSteps.{Shows}
 use Rattle.env_loop.specs.HubTurns.{IsHubTurn}
 use Rattle.env_loop.specs.RecordedRuns.{Run, IsSoundEnvironment, IsRunning, FitsHub}
 use Rattle.env_loop.specs.Recording.{AddonStates}
@@ -42,7 +41,7 @@ pub record IsPlainEvent (core : Core) (h : Hub) (v : Event) (x : Entry) (e : Env
   pub event : IsEvent core h v x e None
   pub addons : e.addons ≡ core.env.addons
   pub frames : e.frames ≡ core.env.frames
-  pub shown : Shows e.phase (hub_step h x).after.stage
+  pub shown : IsStageOf e.phase (hub_step h x).after.stage
   pub stands : (hub_step h x).after.standing ≡ h.standing
   pub owned : IsOwnedHub core.env.addons (hub_step h x).after
   pub sound : IsSoundEnvironment core.env → IsSoundEnvironment e
@@ -155,8 +154,8 @@ finals-event core h next here far spent owned = record {
 }
 
 -- .. and a function that begins to close, or finishes
-pub close-event : (core : Core) (h : Hub) (k : ℕ) → hub_event core.env h ≡ Some (Moves (Closes k)) → hub_move h ≡ Some (Closes k) → Shows core.env.phase h.stage
-    → IsOwnedHub core.env.addons h
+pub close-event : (core : Core) (h : Hub) (k : ℕ) → hub_event core.env h ≡ Some (Moves (Closes k)) → hub_move h ≡ Some (Closes k)
+    → IsStageOf core.env.phase h.stage → IsOwnedHub core.env.addons h
     → IsPlainEvent core h (Moves (Closes k)) (host_entry host.CloseTsfn (out.Function (record { 0 = k }))) core.env
 close-event core h k next move shown owned =
     let x : Entry = host_entry host.CloseTsfn (out.Function (record { 0 = k })) in
@@ -172,14 +171,14 @@ close-event core h k next move shown owned =
       };
       addons = refl;
       frames = refl;
-      shown = subst (Shows core.env.phase) (sym (ap (λ o. (close_step h x o).after.stage) move)) shown;
+      shown = subst (IsStageOf core.env.phase) (sym (ap (λ o. (close_step h x o).after.stage) move)) shown;
       stands = ap (λ o. (close_step h x o).after.standing) move;
       owned = event-owned core.env.addons h x host.CloseTsfn owned;
       sound = λ s. s;
     }
 
 pub finish-event : (core : Core) (h : Hub) (k : ℕ) → hub_event core.env h ≡ Some (Moves (Finishes k)) → hub_move h ≡ Some (Finishes k)
-    → Shows core.env.phase h.stage → IsOwnedHub core.env.addons h
+    → IsStageOf core.env.phase h.stage → IsOwnedHub core.env.addons h
     → IsPlainEvent core h (Moves (Finishes k)) (host_entry host.FinishTsfn (out.Function (record { 0 = k }))) (without_root k core.env)
 finish-event core h k next move shown owned =
     let x : Entry = host_entry host.FinishTsfn (out.Function (record { 0 = k })) in
@@ -195,7 +194,7 @@ finish-event core h k next move shown owned =
       };
       addons = refl;
       frames = refl;
-      shown = subst (Shows core.env.phase) (sym (ap (λ o. (finish_step h x o).after.stage) move)) shown;
+      shown = subst (IsStageOf core.env.phase) (sym (ap (λ o. (finish_step h x o).after.stage) move)) shown;
       stands = ap (λ o. (finish_step h x o).after.standing) move;
       owned = event-owned core.env.addons h x host.FinishTsfn owned;
       sound = sound-unrooted k core.env;
@@ -216,7 +215,7 @@ same-length n = omega arith
 module _ (n : Numbers) (run : Run) (before after : HubSeen) (new : Core) (at : AtHub n run before) (m : MovesPlainly run.core before new after) where
   plain-fits : FitsHub (after_hub_event run m.env (length after.history) run.begun) after
   plain-fits = record {
-    stage = subst (λ (h : Hub). Shows m.env.phase h.stage) (sym m.adds.hub) m.plain.shown;
+    stage = subst (λ (h : Hub). IsStageOf m.env.phase h.stage) (sym m.adds.hub) m.plain.shown;
     standing = ap (λ (h : Hub). h.standing) m.adds.hub ∙ m.plain.stands ∙ at.fits.standing;
     owned = subst (λ k. IsOwnedHub k after.hub) (sym m.plain.addons) (subst (λ h. IsOwnedHub run.core.env.addons h) (sym m.adds.hub) m.plain.owned);
     noted = same-length (length after.history);

@@ -179,7 +179,7 @@ ticket-turn ps all now old new mid due idle event b enough as_many given seen ma
     let L : DueInfo → Type 0 = λ (x : DueInfo). x.addon < core.env.addons in
     let own : r.addon < core.env.addons = subst L b.told there in
     made-turn ps old new all now (ticket_change n r core.env) is idle.awaited unended
-    (ap (λ (x : Run). hub_begun x.begun) made ∙ local ∙ sym (ap hub_begun idle.none)) refl refl
+    (ap (λ (x : Run). hub_begun x.begun) made ∙ local ∙ sym (ap hub_begun idle.none)) refl (λ s is. is)
     (given-others core.env.addons all.registers now.registers due.addon due.gifts there given)
     (begun-touched core.env.frames core.env.frames (frame_of_duty d) d.duty all.registers now.registers idle.alone refl
     (others-given all.registers now.registers r.addon d.gifts (omega (arith, own, enough)) given_it))

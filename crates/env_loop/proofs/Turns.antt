@@ -13,7 +13,6 @@ use Rattle.napi_types.specs.scripts.Plans.{Plan}
 use Rattle.napi_types.specs.environment.Changes.{Change, init_change, gone_change}
 use Rattle.napi_types.specs.environment.Environment.{Environment}
 use Rattle.napi_types.specs.environment.Tickets.{ticket_in}
-use Rattle.napi_types.specs.hub.Hub.{stage_of}
 use Rattle.napi_types.specs.runs.Choice.{local_choice, local_choice_in}
 use Rattle.napi_types.specs.runs.Loop.{Event, Opens, Inits, Tickets, IsGone, EndsLoop}
 use Rattle.napi_types.proofs.environment.HookedSteps.{hooked-init, hooked-gone}
@@ -24,7 +23,7 @@ use Rattle.env_loop.specs.declared.run.FrameEnd.{FrameEnd}
 use Rattle.env_loop.specs.Recording.{AddonStates, Continues}
 use Rattle.env_loop.specs.RecordedRuns.{Run, IsSoundEnvironment, IsOwedEnd, Holds, IsRunning, hub_begun, owes_hub}
 use Rattle.env_loop.specs.Turns.{due_told, IsTurn}
-use Rattle.env_loop.proofs.LocalGoing.{local-goes}
+use Rattle.env_loop.proofs.LocalGoing.{local-goes, KeepsStages, stages-same}
 use Rattle.env_loop.proofs.MadeTurns.{unowed-idle, made-turn}
 use Rattle.env_loop.proofs.RegisterTurns.{none-touched}
 use Rattle.env_loop.proofs.Recordings.{init-grown, gone_change-grown}
@@ -134,14 +133,14 @@ next-gone-is e is = gone-in e e.phase refl is
 module _ (ps : List Plan) (old : Run) (all : AddonStates) (idle : IsIdleRun old.core old.begun old.ending) where
   alone-turn : (new : Run) (change : Change) (o : Option Event) → local_choice old.core.env ≡ o → due_told old.core.env o ≡ None
       → new ≡ record old { core = after_change change old.core }
-      → duty_of change.after.frames ≡ None → change.after.addons ≡ old.core.env.addons → stage_of change.after.phase ≡ stage_of old.core.env.phase
+      → duty_of change.after.frames ≡ None → change.after.addons ≡ old.core.env.addons → KeepsStages old.core.env.phase change.after.phase
       → Continues ps old.core all (after_change change old.core) all
       → IsTurn ps old all new all
-  alone-turn new change o chosen silent made plain addons stage goes =
+  alone-turn new change o chosen silent made plain addons stages goes =
       let is : new.core ≡ after_change change old.core = ap (λ (r : Run). r.core) made in
       let unended : new.ending ≡ None = ap (λ (r : Run). r.ending) made ∙ idle.ended in
       let C : Core → Type 0 = λ c. Continues ps old.core all c all in
-      made-turn ps old new all all change is idle.awaited unended (ap (λ (r : Run). hub_begun r.begun) made) addons stage refl
+      made-turn ps old new all all change is idle.awaited unended (ap (λ (r : Run). hub_begun r.begun) made) addons stages refl
       (none-touched old.core.env.frames change.after.frames all.registers idle.alone plain)
       (seen-stays old.core.env all.seen all.seen (begins-chosen old.core.env o idle.alone chosen ∙ silent) refl)
       (local-goes ps old new all all (subst C (sym is) goes) idle.ended (ap (λ (c : Core). c.awaited) is ∙ idle.awaited) unended)
@@ -153,7 +152,7 @@ module _ (ps : List Plan) (old : Run) (all : AddonStates) (idle : IsIdleRun old.
   init-turn new i chosen made =
       let n : NextInit old.core.env i = next-init-is old.core.env i chosen in
       let R : ℕ → Type 0 = λ k. Continues ps old.core all (after_change (init_change k old.core.env) old.core) all in
-      alone-turn new (init_change i old.core.env) (Some (Inits i)) chosen refl made refl refl refl
+      alone-turn new (init_change i old.core.env) (Some (Inits i)) chosen refl made refl refl (λ s is. is)
       (subst R (sym n.next) (λ s hub history firsts of r. init-grown s old.core hub history all firsts r idle.alone n.here n.opened n.more))
 
   -- the environment is gone
@@ -161,7 +160,8 @@ module _ (ps : List Plan) (old : Run) (all : AddonStates) (idle : IsIdleRun old.
       → IsTurn ps old all new all
   gone_change-turn new chosen made =
       let n : NextGone old.core.env = next-gone-is old.core.env chosen in
-      alone-turn new (gone_change old.core.env) (Some IsGone) chosen refl made (ap duty_of idle.alone) refl (ap stage_of (sym n.here))
+      alone-turn new (gone_change old.core.env) (Some IsGone) chosen refl made (ap duty_of idle.alone) refl
+      (stages-same old.core.env.phase phase.Finals (sym n.here))
       (λ s hub history firsts of r. gone_change-grown s old.core hub history all firsts r idle.alone n.here n.none)
 
 -- WHAT IT KEEPS

@@ -18,10 +18,10 @@ use Rattle.napi_types.specs.environment.Environment.{Environment, opened_with}
 use Rattle.napi_types.specs.environment.Hooked.{IsHooked}
 use Rattle.napi_types.specs.environment.Owners.{IsOwned}
 use Rattle.napi_types.specs.environment.SharedCalls.{shared_call_of}
+use Rattle.napi_types.specs.hub.Hub.{IsStageOf}
 use Rattle.napi_types.specs.hub.HubOwners.{IsOwnedHub}
 use Rattle.env_core.specs.Core.{Core, opened_core}
 use Rattle.shared_hub.specs.HubStates.{HubSeen}
-pub use Rattle.env_teardown.specs.TeardownSteps.{Shows}
 use Rattle.env_loop.specs.declared.run.FrameEnd.{FrameEnd}
 use Rattle.env_loop.specs.declared.run.FrameEnd.TheVariants as end
 
@@ -96,7 +96,7 @@ hub_begun (Some d) = cond (is_hub_duty (Some d.duty)) (Some d) None
 -- a run and a hub that fit together: how far they are, the duty whose frame stands, that works and functions are of the script's addons, and that the run has seen
 -- no more than there is
 pub record FitsHub (run : Run) (seen : HubSeen) : Type 0 where
-  pub stage : Shows run.core.env.phase seen.hub.stage
+  pub stage : IsStageOf run.core.env.phase seen.hub.stage
   pub standing : seen.hub.standing ≡ hub_begun run.begun
   pub owned : IsOwnedHub run.core.env.addons seen.hub
   pub noted : run.core.position ≤ length seen.history

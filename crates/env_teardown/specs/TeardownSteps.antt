@@ -6,7 +6,7 @@ use Rattle.napi_types.specs.declared.entry.Out.TheVariants as out
 use Rattle.napi_types.specs.declared.entry.Phase.{Phase}
 use Rattle.napi_types.specs.declared.entry.Phase.TheVariants as phase
 use Rattle.napi_types.specs.plain.Entries.{host_entry}
-use Rattle.napi_types.specs.hub.Hub.{Hub, Stage, Before, Going, Looped, Drained, Final}
+use Rattle.napi_types.specs.hub.Hub.{Hub}
 use Rattle.napi_types.specs.hub.HubEvents.{delivery_entry}
 use Rattle.napi_types.specs.hub.HubMoves.{Delivers, Closes, Finishes}
 use Rattle.napi_types.specs.runs.Choice.{hub_choice}
@@ -21,15 +21,6 @@ is_in_teardown phase.Hooks = true
 is_in_teardown phase.Drain = true
 is_in_teardown phase.Finals = true
 is_in_teardown _ = false
-
--- which of its great events a hub has come to in this phase
-abbrev pub Shows : Phase → Stage → Type 0
-Shows phase.Init s = s ≡ Before
-Shows phase.Live s = s ≡ Going
-Shows phase.Hooks s = s ≡ Looped
-Shows phase.Drain s = s ≡ Drained
-Shows phase.Finals s = s ≡ Final
-Shows phase.Gone s = s ≡ Final
 
 -- the environment's turn is next, by the phase and by whether a ticket is next: in Hooks while one is, in Drain never, and in Finals always
 abbrev pub is_local_turn : Phase → Bool → Bool

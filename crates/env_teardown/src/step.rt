@@ -1,10 +1,11 @@
 //! One step of the teardown.
 ghost use Rattle.std.specs.Prelude.{◌≡◌, ◌≢◌, ◌↔◌, ℕ, length, true, false, Some, None, IfSome, option_map};
+ghost use Rattle.napi_types.specs.hub.Hub.{IsStageOf};
 ghost use Rattle.napi_types.specs.hub.HubMoves.{Closes, Finishes};
 ghost use Rattle.napi_types.specs.runs.Choice.{hub_choice};
 ghost use Rattle.napi_types.specs.runs.Loop.{Moves, Drains, FinalsCome};
 ghost use Rattle.shared_hub.specs.HubTries.{unspent_job};
-ghost use Rattle.env_teardown.specs.TeardownSteps.{Shows, is_in_teardown, is_local_turn, tear_event, phase_after, AddsEvent, IsStepOf, IfBegins};
+ghost use Rattle.env_teardown.specs.TeardownSteps.{is_in_teardown, is_local_turn, tear_event, phase_after, AddsEvent, IsStepOf, IfBegins};
 
 use addon_trait::Phased;
 use async_work::Job;
@@ -34,7 +35,7 @@ pub fn teardown_step<P: Phased, J: Job, N: Naming>(
     hub: &mut HubState<J, N>,
 ) -> TearStep<J>
     requires teardown { is_in_teardown (P.phase core.old) ≡ true }
-    requires shown { Shows (P.phase core.old) hub.old.hub.stage }
+    requires shown { IsStageOf (P.phase core.old) hub.old.hub.stage }
     requires alone { P.stands core.old ≡ false }
     requires ended { hub.old.hub.standing ≡ None }
 
@@ -66,7 +67,7 @@ pub fn teardown_step<P: Phased, J: Job, N: Naming>(
     // The phase is still the one that the hub has come to, and no frame of the environment's own stands.
     ensures phase { let next = tear_event (P.phase core.old) (P.has_local core.old) hub.old.hub in
         P.phase core.new ≡ phase_after next (P.phase core.old) }
-    ensures shown { Shows (P.phase core.new) hub.new.hub.stage }
+    ensures shown { IsStageOf (P.phase core.new) hub.new.hub.stage }
     ensures alone { P.stands core.new ≡ false }
 {
     match core.phase() {

@@ -24,7 +24,7 @@ use Rattle.napi_types.specs.environment.Changes.{number_of, may_ask}
 use Rattle.napi_types.specs.environment.Ends.{end_change}
 use Rattle.napi_types.specs.environment.Entering.{asked_change}
 use Rattle.napi_types.specs.environment.Environment.{Environment}
-use Rattle.napi_types.specs.hub.Hub.{stage_of, Hub, Stage, Before, Looped, Drained}
+use Rattle.napi_types.specs.hub.Hub.{IsStageOf, Hub, Stage, Before, Looped, Drained}
 use Rattle.napi_types.specs.hub.HubEvents.{begin_step, delivery_entry}
 use Rattle.napi_types.specs.hub.HubMoves.{Delivers, Closes, Finishes, hub_move, is_spent}
 use Rattle.napi_types.specs.runs.Choice.{local_choice, hub_choice, choice}
@@ -246,14 +246,14 @@ gone-last m a x next is =
 pub hub-in-phase : HubIsInPhase
 hub-in-phase s bs xs run = (orderly-run s bs xs run).stage
 
-before-init : (p : Phase) → Before ≡ stage_of p → p ≡ phase.Init
+before-init : (p : Phase) → IsStageOf p Before → p ≡ phase.Init
 before-init phase.Init h = refl
 before-init _ h = cc
 
 pub go-of-runs : GoComesOnlyAfterInitFrames
 go-of-runs s bs xs a x run next is =
     let m : Machine = final_of s bs xs in
-    let init : m.env.phase ≡ phase.Init = before-init m.env.phase (sym (go-from m a x next is).stage ∙ hub-in-phase s bs xs run) in
+    let init : m.env.phase ≡ phase.Init = before-init m.env.phase (subst (IsStageOf m.env.phase) (go-from m a x next is).stage (hub-in-phase s bs xs run)) in
     let may : MayGo m = go-last m a x next is in
     record { phase = init; alone = may.alone; opened = may.opened init; begun = may.begun init }
 
@@ -280,7 +280,7 @@ chosen-drain m is = by (chosen-by m Drains is)
     by (inl mine) = absurd (own m.env.phase (own-choice m.env m.env.phase Drains mine))
     by (inr hubs) = record { none = hubs.0; stage = looped m.hub.stage (hub-choice m.hub m.hub.stage Drains hubs.1) }
 
-looped-hooks : (p : Phase) → Looped ≡ stage_of p → p ≡ phase.Hooks
+looped-hooks : (p : Phase) → IsStageOf p Looped → p ≡ phase.Hooks
 looped-hooks phase.Hooks h = refl
 looped-hooks _ h = cc
 
@@ -293,7 +293,7 @@ drain-of-runs s bs xs a x run next is =
     let m : Machine = final_of s bs xs in
     let h : Happens m x = happens-next m a x (ap is_of_others is) (ap (λ w. is_of_frames w x.reply.out) is) next in
     let from : DrainsFrom m = chosen-drain m (h.next ∙ ap Some (is-drain h.event (happens-what m x host.Drain is h))) in
-    let here : m.env.phase ≡ phase.Hooks = looped-hooks m.env.phase (sym from.stage ∙ hub-in-phase s bs xs run) in
+    let here : m.env.phase ≡ phase.Hooks = looped-hooks m.env.phase (subst (IsStageOf m.env.phase) from.stage (hub-in-phase s bs xs run)) in
     record { phase = here; alone = h.alone; spent = none-left m.env m.env.phase here (no-choice m.env m.env.phase from.none) }
 
 -- `finals` is the hub's event in the phase of the drain
@@ -320,7 +320,7 @@ chosen-finals m is = by (chosen-by m FinalsCome is)
     by (inl mine) = absurd (own m.env.phase (own-choice m.env m.env.phase FinalsCome mine))
     by (inr hubs) = last m.hub.stage refl (hub-choice m.hub m.hub.stage FinalsCome hubs.1)
 
-drained-phase : (p : Phase) → Drained ≡ stage_of p → p ≡ phase.Drain
+drained-phase : (p : Phase) → IsStageOf p Drained → p ≡ phase.Drain
 drained-phase phase.Drain h = refl
 drained-phase _ h = cc
 
@@ -329,5 +329,5 @@ finals-of-runs s bs xs a x run next is =
     let m : Machine = final_of s bs xs in
     let h : Happens m x = happens-next m a x (ap is_of_others is) (ap (λ w. is_of_frames w x.reply.out) is) next in
     let from : FinalsFrom m = chosen-finals m (h.next ∙ ap Some (is-finals h.event (happens-what m x host.Finals is h))) in
-    let here : m.env.phase ≡ phase.Drain = drained-phase m.env.phase (sym from.stage ∙ hub-in-phase s bs xs run) in
+    let here : m.env.phase ≡ phase.Drain = drained-phase m.env.phase (subst (IsStageOf m.env.phase) from.stage (hub-in-phase s bs xs run)) in
     record { phase = here; alone = h.alone; unmoved = from.unmoved; spent = from.spent }

@@ -25,7 +25,7 @@ use Rattle.napi_types.specs.environment.Ends.{end_change}
 use Rattle.napi_types.specs.environment.Entering.{asked_change}
 use Rattle.napi_types.specs.environment.Environment.{Environment}
 use Rattle.napi_types.specs.environment.SharedCalls.{shared_entry}
-use Rattle.napi_types.specs.hub.Hub.{stage_of, Stage, Going, Drained}
+use Rattle.napi_types.specs.hub.Hub.{IsStageOf, Stage, Going, Drained}
 use Rattle.napi_types.specs.hub.HubMoves.{HubMove, Delivers, Closes, Finishes, hub_move, is_idle, is_quiet}
 use Rattle.napi_types.specs.hub.HubEvents.{delivery_entry}
 use Rattle.napi_types.specs.hub.HubSteps.{hub_step}
@@ -42,8 +42,8 @@ use Rattle.napi_types.proofs.environment.Cases.{asked-by, ended-by}
 use Rattle.napi_types.proofs.hub.HubKeeps.{hub_step-what}
 use Rattle.napi_types.proofs.runs.Forms.{event_what}
 use Rattle.napi_types.proofs.runs.SharedSteps.{is_of_others, others-told, after_shared-alone}
-use Rattle.napi_types.proofs.runs.StepCases.{StepCase, calls, ends, shares, leaves, passes, moves, others, event_before, InPhase}
-use Rattle.napi_types.proofs.runs.Chosen.{OwnChoice, exits, NoChoice, begun, waits, unhooked, drained, gone, no-choice, HubChoice, idles, quiets, chosen-in-phase}
+use Rattle.napi_types.proofs.runs.StepCases.{StepCase, calls, ends, shares, leaves, passes, moves, others, event_before, InPhase, stage-in}
+use Rattle.napi_types.proofs.runs.Chosen.{OwnChoice, exits, NoChoice, waits, no-choice, HubChoice, idles, quiets, chosen-in-phase}
 use Rattle.napi_types.proofs.all_runs.Orderly.{Orderly, orderly-opens, along-orderly}
 use Rattle.machine_laws.specs.Choices.{begins_due_tickets_in, is_of_frames, BeginsLowest, BeginsLastHook, BeginsOfHub}
 use Rattle.machine_laws.specs.ExitLaws.{asks_exit, has_exit, reason_of, ExitIsAskedByItsCall, EndsByReason, TheLoopEndsByItsReason, TheLoopEndsByExitOrIdle, WhatIsDueWaitsForFinalsOnceExitWasAsked}
@@ -173,32 +173,29 @@ own-reason : (m : Machine) (p : Phase) (reason : LoopEnd) → OwnChoice m.env p 
 own-reason m _ _ (exits asked) = by-exit m m.env.exit_asked asked
 
 -- where the hub ends the loop the environment is in it, and decided nothing
-hub-reason : (m : Machine) (p : Phase) (reason : LoopEnd) → NoChoice m.env p → HubChoice m.hub (stage_of p) (EndsLoop reason)
+hub-reason : (m : Machine) (p : Phase) (s : Stage) (reason : LoopEnd) → IsStageOf p s → HubChoice m.hub s (EndsLoop reason) → NoChoice m.env p
     → IsReason m m.env.exit_asked reason
-hub-reason m _ _ (waits unasked lowest) (idles unmoved idle) = record {
+hub-reason m _ _ _ shown (idles unmoved idle) (waits unasked lowest) = record {
   is = sym (ap (λ b. reason_of b (is_idle m.hub)) unasked ∙ ap (reason_of false) idle);
   none_due = λ z. lowest;
   unmoved = λ z. unmoved;
   quiet = λ z busy. let no : true ≡ false = sym idle ∙ busy in cc;
 }
-hub-reason m _ _ (waits unasked lowest) (quiets unmoved busy quiet) = record {
+hub-reason m _ _ _ shown (quiets unmoved busy quiet) (waits unasked lowest) = record {
   is = sym (ap (λ b. reason_of b (is_idle m.hub)) unasked ∙ ap (reason_of false) busy);
   none_due = λ z. lowest;
   unmoved = λ z. unmoved;
   quiet = λ z idle. quiet;
 }
-hub-reason m _ _ (begun opened left) c = elim c [ ]
-hub-reason m _ _ (unhooked none) c = elim c [ ]
-hub-reason m _ _ drained c = elim c [ ]
-hub-reason m _ _ gone c = elim c [ ]
+hub-reason m _ _ _ shown _ _ = cc
 
 chosen-reason : (m : Machine) (reason : LoopEnd) → InPhase m → choice m ≡ Some (EndsLoop reason) → IsReason m m.env.exit_asked reason
-chosen-reason m reason far is = by (chosen-in-phase m (EndsLoop reason) far is)
+chosen-reason m reason far is = by (chosen-in-phase m (EndsLoop reason) is)
   where
-    by : OwnChoice m.env m.env.phase (EndsLoop reason) ⊎ NoChoice m.env m.env.phase × HubChoice m.hub (stage_of m.env.phase) (EndsLoop reason)
+    by : OwnChoice m.env m.env.phase (EndsLoop reason) ⊎ NoChoice m.env m.env.phase × HubChoice m.hub m.hub.stage (EndsLoop reason)
         → IsReason m m.env.exit_asked reason
     by (inl mine) = own-reason m m.env.phase reason mine
-    by (inr its) = hub-reason m m.env.phase reason its.0 its.1
+    by (inr its) = hub-reason m m.env.phase m.hub.stage reason far its.1 its.0
 
 -- the entry tells the reason
 told-reason : (m : Machine) (x : Entry) → x.what ≡ what.Host host.LoopEnd → InPhase m → Happens m x → EndsByReason m m.env.exit_asked x
@@ -235,16 +232,16 @@ delivers _ = false
 -- it delivers nothing in the loop once exit was asked
 drain-delivers : (m : Machine) (p : Phase) → InPhase m → m.env.phase ≡ p → m.env.exit_asked ≡ true → NoChoice m.env p → (m.hub.stage ≡ Going) ⊎ (m.hub.stage ≡ Drained)
     → p ≡ phase.Drain
-drain-delivers m p far here asked none moment = by p none (sym (ap delivers (far ∙ ap stage_of here)) ∙ now moment)
+drain-delivers m p far here asked none moment = by p m.hub.stage (stage-in m p far here) none (now moment)
   where
     now : (m.hub.stage ≡ Going) ⊎ (m.hub.stage ≡ Drained) → delivers m.hub.stage ≡ true
     now (inl is) = ap delivers is
     now (inr is) = ap delivers is
 
-    by : (p : Phase) → NoChoice m.env p → delivers (stage_of p) ≡ true → p ≡ phase.Drain
-    by phase.Drain none delivered = refl
-    by phase.Live (waits unasked lowest) delivered = let z : true ≡ false = sym asked ∙ unasked in cc
-    by _ none delivered = cc
+    by : (p : Phase) (s : Stage) → IsStageOf p s → NoChoice m.env p → delivers s ≡ true → p ≡ phase.Drain
+    by phase.Drain s shown _ delivered = refl
+    by phase.Live s shown (waits unasked lowest) delivered = let z : true ≡ false = sym asked ∙ unasked in cc
+    by _ s shown _ delivered = let z : true ≡ false = sym delivered ∙ ap delivers shown in cc
 
 pub due-waits : WhatIsDueWaitsForFinalsOnceExitWasAsked
 due-waits s bs xs a x c addon entry d run asked next is told = by (tickets-begin m a x c addon entry d next is told)

@@ -8,7 +8,6 @@ use Rattle.napi_types.specs.declared.entry.Phase.TheVariants as phase
 use Rattle.napi_types.specs.declared.entry.What.TheVariants as what
 use Rattle.napi_types.specs.parts.Book.{Book, Registration, is_registered, is_at, registration_at, lowest_due}
 use Rattle.napi_types.specs.environment.Hooked.{is_late}
-use Rattle.napi_types.specs.hub.Hub.{stage_of}
 use Rattle.napi_types.specs.runs.Machine.{Machine}
 use Rattle.napi_types.specs.runs.Run.{IsNext, IsRunBy, final}
 use Rattle.napi_types.specs.runs.Setting.{opening_of, final_of}
@@ -18,6 +17,7 @@ use Rattle.napi_types.proofs.environment.Registrations.{registered-holds}
 use Rattle.napi_types.proofs.runs.SharedSteps.{is_of_others}
 use Rattle.napi_types.proofs.runs.Forms.{form-of, by-env}
 use Rattle.napi_types.proofs.runs.Nested.{IsNested, form-nested, opens-nested}
+use Rattle.napi_types.proofs.runs.StepCases.{stage-in}
 use Rattle.napi_types.proofs.runs.Runs.{along-run}
 use Rattle.napi_types.proofs.all_runs.Orderly.{orderly-run}
 use Rattle.machine_laws.specs.Choices.{begins_due_tickets_in, IsOfTicket, GoneComesOnlyAfterFinals}
@@ -62,6 +62,6 @@ gone-of-runs s bs xs a x run next is =
     record {
       phase = last.1;
       alone = last.0;
-      stage = hub-in-phase s bs xs run ∙ ap stage_of last.1;
+      stage = stage-in m phase.Finals (hub-in-phase s bs xs run) last.1;
       spent = none-owed_tickets m.env.book none (none-due m a x (lowest_due m.env.book) refl last.0 last.1 next is);
     }

@@ -20,7 +20,7 @@ use Rattle.napi_types.specs.parts.Book.{Book, Registration, is_registered, is_du
 use Rattle.napi_types.specs.parts.Frames.{Frame, frame_of_duty, begin_told, is_hub_duty}
 use Rattle.napi_types.specs.parts.Hooks.{Hook, last_hook}
 use Rattle.napi_types.specs.environment.Environment.{Environment}
-use Rattle.napi_types.specs.hub.Hub.{stage_of, Hub, Going, Drained, Final, stage_after}
+use Rattle.napi_types.specs.hub.Hub.{IsStageOf, Hub, Going, Drained, Final, stage_after}
 use Rattle.napi_types.specs.hub.HubCalls.{is_thread_call}
 use Rattle.napi_types.specs.hub.HubEvents.{delivery_entry}
 use Rattle.napi_types.specs.hub.HubMoves.{Delivers, hub_move, is_spent}
@@ -203,10 +203,10 @@ TicketsBeginAtTheirMoments = (m : Machine) (a : Ask) (x : Entry) (c : Cause) (ad
     → x.reply.out ≡ out.Begin c addon entry (Some d) → BeginsLowest m d ⊎ BeginsLastHook m d ⊎ BeginsOfHub m d x
 
 -- EVENTS OF RUNS
--- at every moment of a run the hub is as far as the phase says
+-- at every moment of a run the hub has come to a stage of the phase
 abbrev pub HubIsInPhase : Type 0
 HubIsInPhase = (s : Setting) (bs : List Ask) (xs : List Entry) → IsRunBy (opening_of s) bs xs
-    → (final_of s bs xs).hub.stage ≡ stage_of (final_of s bs xs).env.phase
+    → IsStageOf (final_of s bs xs).env.phase (final_of s bs xs).hub.stage
 
 -- so `go` comes in the phase of the init frames and in no other, ..
 pub record IsReadyToGo (m : Machine) : Type 0 where

@@ -10,7 +10,7 @@ use Rattle.napi_types.specs.declared.entry.Phase.{Phase}
 use Rattle.napi_types.specs.declared.entry.Phase.TheVariants as phase
 use Rattle.napi_types.specs.environment.Changes.{opening_change}
 use Rattle.napi_types.specs.environment.Environment.{new_environment}
-use Rattle.napi_types.specs.hub.Hub.{Stage, Final, Before}
+use Rattle.napi_types.specs.hub.Hub.{Stage, Final, Before, IsStageOf}
 use Rattle.napi_types.specs.scripts.Plans.{Plan}
 use Rattle.napi_types.specs.all_runs.TurnsInOrder.{BothLists, TurnsLead}
 use Rattle.env_core.specs.Core.{Core}
@@ -20,7 +20,7 @@ use Rattle.shared_hub.specs.declared.naming.Numbers.{Numbers}
 use Rattle.env_loop.specs.declared.actor.ActorRun.{ActorRun}
 use Rattle.env_loop.specs.ActorTurns.{actor_of, is_over, IsActorAt, IsActorOf, IsFreshActor}
 use Rattle.env_loop.specs.FollowedRuns.{GoesOnAt, IsFollowed}
-use Rattle.env_loop.specs.RecordedRuns.{Run, FitsHub, Shows}
+use Rattle.env_loop.specs.RecordedRuns.{Run, FitsHub}
 use Rattle.env_loop.proofs.HubGoing.{replays-in, gone-ended}
 use Rattle.env_loop.specs.OpenedAndGone.{IsOpenedRun, EndsWhole}
 use Rattle.env_loop.proofs.FreshAndEnded.{opened-runs-fit, fresh-actors-stand}
@@ -39,7 +39,7 @@ opened-stands n m opened empty = record {
 }
 
 -- THE END
-gone-stage : (p : Phase) (s : Stage) → Shows p s → p ≡ phase.Gone → s ≡ Final
+gone-stage : (p : Phase) (s : Stage) → IsStageOf p s → p ≡ phase.Gone → s ≡ Final
 gone-stage phase.Gone s shows gone = shows
 gone-stage phase.Init s shows gone = cc
 gone-stage phase.Live s shows gone = cc

@@ -12,7 +12,7 @@ use Rattle.napi_types.specs.declared.entry.Phase.TheVariants as phase
 use Rattle.napi_types.specs.parts.Frames.{Frame}
 use Rattle.napi_types.specs.scripts.Plans.{Plan}
 use Rattle.napi_types.specs.environment.Environment.{Environment}
-use Rattle.napi_types.specs.hub.Hub.{Stage, Before, Going, Looped, Drained, Final}
+use Rattle.napi_types.specs.hub.Hub.{Stage, Before, Going, Looped, Drained, Final, IsStageOf}
 use Rattle.napi_types.specs.hub.Waits.{SomebodyGoesOn}
 use Rattle.napi_types.specs.runs.Choice.{local_choice, local_choice_in, hub_choice}
 use Rattle.napi_types.specs.runs.Loop.{Event, IsGone, ticket_choice}
@@ -25,7 +25,7 @@ use Rattle.env_loop.specs.declared.actor.ActorRun.TheVariants as run
 use Rattle.env_loop.specs.declared.turn.LocalTurn.{LocalTurn}
 use Rattle.env_loop.specs.declared.turn.LocalTurn.TheVariants as turn
 use Rattle.env_loop.specs.ActorTurns.{actor_of, IsActorOf}
-use Rattle.env_loop.specs.RecordedRuns.{Run, FitsHub, Shows, owes_hub}
+use Rattle.env_loop.specs.RecordedRuns.{Run, FitsHub, owes_hub}
 use Rattle.env_loop.specs.Turns.{event_turn, turn_at, needs_hub, hub_event}
 use Rattle.stepper.specs.TakingPart.{actors_of, round_of, rounds_of, turns_of, is_thread_run}
 use Rattle.stepper.specs.GivenTurns.{RunAtHub, Moment, moment_of, IsIdle, WasGone}
@@ -47,7 +47,7 @@ early-stage : (shown s : Stage) → s ≡ shown → s ≡ Final → (shown ≡ F
 early-stage shown s is final never = never (sym is ∙ final)
 
 -- it is neither in its last phase nor gone
-early-phase : (e : Environment) (p : Phase) (s : Stage) → Shows p s → local_choice_in e p ≡ None → event_turn None p ≡ turn.NeedsHub → s ≢ Final
+early-phase : (e : Environment) (p : Phase) (s : Stage) → IsStageOf p s → local_choice_in e p ≡ None → event_turn None p ≡ turn.NeedsHub → s ≢ Final
 early-phase e phase.Init s shows none needs = λ final. early-stage Before s shows final (λ is. cc)
 early-phase e phase.Live s shows none needs = λ final. early-stage Going s shows final (λ is. cc)
 early-phase e phase.Hooks s shows none needs = λ final. early-stage Looped s shows final (λ is. cc)

@@ -11,10 +11,10 @@ use Rattle.napi_types.specs.plain.Entries.{host_entry}
 use Rattle.napi_types.specs.parts.Book.{Registration, TicketState, registration_at, lowest_due, is_at, is_due, may_begin_in}
 use Rattle.napi_types.specs.parts.Hooks.{Hook, last_hook}
 use Rattle.napi_types.specs.environment.Hooked.{is_late, IsHooked}
-use Rattle.napi_types.specs.hub.Hub.{Stage, Before, Going, Looped, Drained, Final, stage_after, stage_of}
+use Rattle.napi_types.specs.hub.Hub.{Stage, Before, Going, Looped, Drained, Final, stage_after, IsStageOf}
 use Rattle.napi_types.specs.hub.HubEvents.{begin_step, close_step, finish_step, delivery_entry, is_moving}
 use Rattle.napi_types.specs.hub.HubMoves.{HubMove, Delivers, Closes, Finishes, hub_move, idle_reason, is_idle, is_quiet, is_spent}
-use Rattle.napi_types.specs.runs.Choice.{choice, local_choice, local_choice_in, hub_choice_at, finals_choice}
+use Rattle.napi_types.specs.runs.Choice.{choice, local_choice_in, hub_choice, hub_choice_at, finals_choice}
 use Rattle.napi_types.specs.runs.Loop.{Event, Opens, Inits, Tickets, Moves, Goes, EndsLoop, FinalsCome, IsGone}
 use Rattle.napi_types.specs.runs.Machine.{Machine}
 use Rattle.napi_types.specs.runs.Setting.{final_of}
@@ -99,18 +99,26 @@ finals-may : (m : Machine) (o : Option ℕ) → lowest_due m.env.book ≡ o → 
 finals-may m (Some n) lowest here = due-may phase.Finals m n here (λ s. refl) lowest
 finals-may m None lowest here = refl
 
-phase-may : (m : Machine) (p : Phase) → m.env.phase ≡ p → m.hub.stage ≡ stage_of p → IsHooked m.env → m.hub.standing ≡ None
-    → May m (option_or (local_choice_in m.env p) (hub_choice_at m.hub (stage_of p)))
-phase-may m phase.Init here far hooked alone = init-may m m.env.opened (nat_lt m.env.inits m.env.addons) far alone
-phase-may m phase.Live here far hooked alone = live-may m m.env.exit_asked (lowest_due m.env.book) refl here far alone
-phase-may m phase.Hooks here far hooked alone = hooks-may m (last_hook m.env.hooks) refl hooked here far alone
-phase-may m phase.Drain here far hooked alone = drained-may m (hub_move m.hub) refl far alone
-phase-may m phase.Finals here far hooked alone = finals-may m (lowest_due m.env.book) refl here
-phase-may m phase.Gone here far hooked alone = tt
+-- by the stage to which the hub has come
+at-stage : (m : Machine) (s : Stage) (own : Option Event) → m.hub.stage ≡ s → May m (option_or own (hub_choice_at m.hub s))
+    → May m (option_or own (hub_choice m.hub))
+at-stage m s own far may = subst (λ t. May m (option_or own (hub_choice_at m.hub t))) (sym far) may
+
+phase-may : (m : Machine) (p : Phase) → m.env.phase ≡ p → IsStageOf p m.hub.stage → IsHooked m.env → m.hub.standing ≡ None
+    → May m (option_or (local_choice_in m.env p) (hub_choice m.hub))
+phase-may m phase.Init here far hooked alone =
+    at-stage m Before (local_choice_in m.env phase.Init) far (init-may m m.env.opened (nat_lt m.env.inits m.env.addons) far alone)
+phase-may m phase.Live here far hooked alone =
+    at-stage m Going (local_choice_in m.env phase.Live) far (live-may m m.env.exit_asked (lowest_due m.env.book) refl here far alone)
+phase-may m phase.Hooks here far hooked alone =
+    at-stage m Looped (local_choice_in m.env phase.Hooks) far (hooks-may m (last_hook m.env.hooks) refl hooked here far alone)
+phase-may m phase.Drain here far hooked alone = at-stage m Drained None far (drained-may m (hub_move m.hub) refl far alone)
+phase-may m phase.Finals here far hooked alone =
+    at-stage m Final (local_choice_in m.env phase.Finals) far (finals-may m (lowest_due m.env.book) refl here)
+phase-may m phase.Gone here far hooked alone = at-stage m Final None far tt
 
 choice-may : (m : Machine) → Orderly m → m.hub.standing ≡ None → May m (choice m)
-choice-may m k alone =
-    subst (λ t. May m (option_or (local_choice m.env) (hub_choice_at m.hub t))) (sym k.stage) (phase-may m m.env.phase refl k.stage k.hooked alone)
+choice-may m k alone = phase-may m m.env.phase refl k.stage k.hooked alone
 
 pub next-may : NextEventsMayCome
 next-may s bs xs event run unframed next =

@@ -27,7 +27,7 @@ use Rattle.napi_types.specs.environment.Entering.{asked_change}
 use Rattle.napi_types.specs.environment.Environment.{Environment}
 use Rattle.napi_types.specs.environment.JournalRoom.{gone_place, reserved_journal, journal_room}
 use Rattle.napi_types.specs.environment.SharedCalls.{shared_entry, after_shared}
-use Rattle.napi_types.specs.hub.Hub.{stage_of, Before, Going, Looped, Drained}
+use Rattle.napi_types.specs.hub.Hub.{IsStageOf, Stage, Before, Going, Looped, Drained}
 use Rattle.napi_types.specs.hub.HubMoves.{HubMove, Delivers, Closes, Finishes, hub_move}
 use Rattle.napi_types.specs.hub.HubSteps.{hub_step}
 use Rattle.napi_types.specs.runs.CallRoom.{room_of}
@@ -52,7 +52,7 @@ use Rattle.napi_types.proofs.runs.Forms as form
 use Rattle.napi_types.proofs.runs.Forms.{Form, form-of}
 use Rattle.napi_types.proofs.runs.Runs.{along-entries, along-run}
 use Rattle.napi_types.proofs.runs.SharedSteps.{after_shared-alone, shares-still, moves-still, others-still, end-stage}
-use Rattle.napi_types.proofs.runs.StepCases.{StepCase, shares, leaves, passes, moves, others, stage-moved, step-case}
+use Rattle.napi_types.proofs.runs.StepCases.{StepCase, shares, leaves, passes, moves, others, InPhase, stage-in, still-in-phase, stage-moved, step-case}
 use Rattle.napi_types.proofs.all_runs.Orderly.{late-tears, settled-passed}
 
 abbrev pub is_init : Phase → Bool
@@ -63,7 +63,7 @@ is_init _ = false
 pub record Roomy (Enough : Type 0) (l : Limits) (m : Machine) : Type 0 where
   pub limits : m.limits ≡ l
   pub journal : Enough → m.journal_length + reserved_journal m.env ≤ l.journal
-  pub stage : m.hub.stage ≡ stage_of m.env.phase
+  pub stage : InPhase m
   -- once the init frames are over the opening stands, and each addon had its frame
   pub opened : is_init m.env.phase ≡ false → m.env.opened ≡ true
   pub inits : is_init m.env.phase ≡ false → nat_lt m.env.inits m.env.addons ≡ false
@@ -86,7 +86,7 @@ stays : (Enough : Type 0) (l : Limits) (m n : Machine) → Roomy Enough l m → 
 stays Enough l m n r limits stage course journal settled never = record {
   limits = limits ∙ r.limits;
   journal = journal;
-  stage = stage ∙ r.stage ∙ ap stage_of (sym course.phase);
+  stage = still-in-phase m n course.phase stage r.stage;
   opened = λ p. course.opened ∙ r.opened (ap is_init (sym course.phase) ∙ p);
   inits = λ p. rw (course.inits, course.addons) (r.inits (ap is_init (sym course.phase) ∙ p));
   settled = λ p. settled (ap is_late (sym course.phase) ∙ p);
@@ -179,7 +179,7 @@ passed-fits : (j b w v x : ℕ) → w ≡ v → j + (b + 2 * v) ≤ x → j + (b
 passed-fits j b w v x e h = omega (arith, e, h)
 
 passed-room : (Enough : Type 0) (l : Limits) (m : Machine) (event : HostStep) (p : Phase) (o : Out)
-    → (by_hub m event p o).after.hub.stage ≡ stage_of p → gone_place p ≡ gone_place m.env.phase → p ≢ phase.Gone
+    → IsStageOf p (by_hub m event p o).after.hub.stage → gone_place p ≡ gone_place m.env.phase → p ≢ phase.Gone
     → m.env.opened ≡ true → nat_lt m.env.inits m.env.addons ≡ false → Roomy Enough l m → Roomy Enough l (by_hub m event p o).after
 passed-room Enough l m event p o far g never stands had r = record {
   limits = r.limits;
@@ -244,7 +244,7 @@ later-inits Enough l m p e n r = r.inits (ap is_init e ∙ n)
 loop-ended-room : (Enough : Type 0) (l : Limits) (m : Machine) (w : LoopEnd) → m.env.phase ≡ phase.Live → Roomy Enough l m
     → Roomy Enough l (event_step m (EndsLoop w)).after
 loop-ended-room Enough l m w e r =
-    passed-room Enough l m host.LoopEnd phase.Hooks (out.Ended w) (stage-moved m host.LoopEnd Going (r.stage ∙ ap stage_of e)) (rw e refl) (λ q. cc)
+    passed-room Enough l m host.LoopEnd phase.Hooks (out.Ended w) (stage-moved m host.LoopEnd Going (stage-in m phase.Live r.stage e)) (rw e refl) (λ q. cc)
     (later-opened Enough l m phase.Live e refl r) (later-inits Enough l m phase.Live e refl r) r
 
 not-gone : (e : Environment) (p : Phase) → e.phase ≡ p → p ≢ phase.Gone → e.phase ≢ phase.Gone
@@ -290,7 +290,7 @@ own-room Enough l m _ _ e f (choices.ends lowest) r h =
     record {
       limits = r.limits;
       journal = λ enough. rw f (gone-fits m.journal_length (one_if (not m.env.opened)) (2 * (m.env.addons - m.env.inits)) (owed_tickets m.env.book) l.journal (j enough));
-      stage = r.stage ∙ ap stage_of e;
+      stage = stage-in m phase.Finals r.stage e;
       opened = λ q. later-opened Enough l m phase.Finals e refl r;
       inits = λ q. later-inits Enough l m phase.Finals e refl r;
       settled = λ q. settled;
@@ -299,32 +299,31 @@ own-room Enough l m _ _ e f (choices.ends lowest) r h =
     }
 
 -- and what the hub does where it decides nothing
-hub-room : (Enough : Type 0) (l : Limits) (m : Machine) (p : Phase) (v : Event) → m.env.phase ≡ p → NoChoice m.env p → HubChoice m.hub (stage_of p) v
-    → Roomy Enough l m
-    → Roomy Enough l (event_step m v).after
-hub-room Enough l m _ _ e (choices.begun o i) choices.goes r =
-    passed-room Enough l m host.Go phase.Live out.Nothing (stage-moved m host.Go Before (r.stage ∙ ap stage_of e)) (rw e refl) (λ q. cc) o i r
-hub-room Enough l m _ _ e (choices.waits unasked lowest) (choices.idles none idle) r = loop-ended-room Enough l m loop_end.Idle e r
-hub-room Enough l m _ _ e (choices.waits unasked lowest) (choices.quiets none busy quiet) r = loop-ended-room Enough l m loop_end.Quiet e r
-hub-room Enough l m _ _ e (choices.waits unasked lowest) (choices.moves_in_loop move next) r =
+hub-room : (Enough : Type 0) (l : Limits) (m : Machine) (p : Phase) (s : Stage) (v : Event) → m.env.phase ≡ p → m.hub.stage ≡ s → IsStageOf p s
+    → HubChoice m.hub s v → NoChoice m.env p → Roomy Enough l m → Roomy Enough l (event_step m v).after
+hub-room Enough l m _ _ _ e far shown choices.goes (choices.begun o i) r =
+    passed-room Enough l m host.Go phase.Live out.Nothing (stage-moved m host.Go Before far) (rw e refl) (λ q. cc) o i r
+hub-room Enough l m _ _ _ e far shown (choices.idles none idle) (choices.waits unasked lowest) r = loop-ended-room Enough l m loop_end.Idle e r
+hub-room Enough l m _ _ _ e far shown (choices.quiets none busy quiet) (choices.waits unasked lowest) r = loop-ended-room Enough l m loop_end.Quiet e r
+hub-room Enough l m _ _ _ e far shown (choices.moves_in_loop move next) (choices.waits unasked lowest) r =
     move-room Enough l m move next (not-gone m.env phase.Live e (λ q. cc)) r
-hub-room Enough l m _ _ e (choices.unhooked none) choices.drains r =
-    passed-room Enough l m host.Drain phase.Drain (out.Unsigned (length m.hub.pool.queued)) (stage-moved m host.Drain Looped (r.stage ∙ ap stage_of e))
-    (rw e refl) (λ q. cc)
+hub-room Enough l m _ _ _ e far shown choices.drains (choices.unhooked none) r =
+    passed-room Enough l m host.Drain phase.Drain (out.Unsigned (length m.hub.pool.queued)) (stage-moved m host.Drain Looped far) (rw e refl) (λ q. cc)
     (later-opened Enough l m phase.Hooks e refl r) (later-inits Enough l m phase.Hooks e refl r) r
-hub-room Enough l m _ _ e choices.drained (choices.finals none spent) r =
-    passed-room Enough l m host.Finals phase.Finals out.Nothing (stage-moved m host.Finals Drained (r.stage ∙ ap stage_of e)) (rw e refl) (λ q. cc)
+hub-room Enough l m _ _ _ e far shown (choices.finals none spent) choices.drained r =
+    passed-room Enough l m host.Finals phase.Finals out.Nothing (stage-moved m host.Finals Drained far) (rw e refl) (λ q. cc)
     (later-opened Enough l m phase.Drain e refl r) (later-inits Enough l m phase.Drain e refl r) r
-hub-room Enough l m _ _ e choices.drained (choices.moves_at_end move next) r = move-room Enough l m move next (not-gone m.env phase.Drain e (λ q. cc)) r
-hub-room Enough l m _ _ e choices.gone c r = elim c [ ]
+hub-room Enough l m _ _ _ e far shown (choices.moves_at_end move next) choices.drained r =
+    move-room Enough l m move next (not-gone m.env phase.Drain e (λ q. cc)) r
+hub-room Enough l m _ _ _ e far shown _ _ r = cc
 
 event-room : (Enough : Type 0) (l : Limits) (m : Machine) (v : Event) → m.env.frames ≡ [] → choice m ≡ Some v → Roomy Enough l m → IsTrue (event_step m v).may
     → Roomy Enough l (event_step m v).after
-event-room Enough l m v alone next r h = by (chosen-in-phase m v r.stage next)
+event-room Enough l m v alone next r h = by (chosen-in-phase m v next)
   where
-    by : OwnChoice m.env m.env.phase v ⊎ NoChoice m.env m.env.phase × HubChoice m.hub (stage_of m.env.phase) v → Roomy Enough l (event_step m v).after
+    by : OwnChoice m.env m.env.phase v ⊎ NoChoice m.env m.env.phase × HubChoice m.hub m.hub.stage v → Roomy Enough l (event_step m v).after
     by (inl mine) = own-room Enough l m m.env.phase v refl alone mine r h
-    by (inr its) = hub-room Enough l m m.env.phase v refl its.0 its.1 r
+    by (inr its) = hub-room Enough l m m.env.phase m.hub.stage v refl refl r.stage its.1 its.0 r
 
 -- EACH STEP
 -- a thread or a worker leaves the environment as it is
@@ -332,7 +331,7 @@ other-room : (Enough : Type 0) (l : Limits) (m : Machine) (x : Entry) → is_env
 other-room Enough l m x other r = record {
   limits = r.limits;
   journal = r.journal;
-  stage = (others-still m x other).stage ∙ r.stage;
+  stage = still-in-phase m (other_step m x).after refl (others-still m x other).stage r.stage;
   opened = r.opened;
   inits = r.inits;
   settled = r.settled;

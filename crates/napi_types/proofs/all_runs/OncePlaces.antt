@@ -17,7 +17,7 @@ use Rattle.napi_types.specs.parts.Book.{registration_at, is_at, is_owed}
 use Rattle.napi_types.specs.parts.Functions.{FunctionState, is_done}
 use Rattle.napi_types.specs.parts.Works.{Execution, Outcome, is_cancelled}
 use Rattle.napi_types.specs.hub.HistoryRoom.{function_places, state_places, reserved_history}
-use Rattle.napi_types.specs.hub.Hub.{Hub, threads_left, workers_left, stage_of, stage_places}
+use Rattle.napi_types.specs.hub.Hub.{Hub, threads_left, workers_left, stage_places}
 use Rattle.napi_types.specs.hub.HubCalls.{function_at}
 use Rattle.napi_types.specs.runs.Machine.{Machine}
 use Rattle.napi_types.specs.runs.Setting.{Setting, RunsBy, EndsBy, opening_of, final_of}
@@ -31,7 +31,7 @@ use Rattle.napi_types.proofs.all_runs.HistoryRooms.{HubRoomy, hub-run, opening-h
 use Rattle.napi_types.proofs.all_runs.HubAccounts.{HubRunAccount, RunFacts, given_in_hub, given-once, none-at_first, setting-facts}
 use Rattle.napi_types.proofs.all_runs.Onces as ticket
 use Rattle.napi_types.proofs.all_runs.Orderly.{orderly-opens}
-use Rattle.napi_types.proofs.all_runs.Rooms.{run-stage}
+use Rattle.napi_types.proofs.all_runs.Rooms.{final-stage}
 use Rattle.napi_types.proofs.all_runs.Withdrawals.{withdrawn-rightly}
 use Rattle.napi_types.proofs.all_runs.WorkAccounts.{ran_in_pool}
 
@@ -229,7 +229,7 @@ no-places h (duty.Work n) empty =
 pub final-empty : (s : Setting) (bs : List Ask) (xs : List Entry) → EndsBy s bs xs → NothingReserved (final_of s bs xs).hub
 final-empty s bs xs whole =
     let r : HubRoomy (HistorySuffices s) s.limits (final_of s bs xs) = hub-run (HistorySuffices s) s.limits (opening_of s) bs xs (opening-hub s) whole.run.steps in
-    empty-hub (final_of s bs xs).hub (r.spent (run-stage s bs xs whole.run.steps ∙ ap stage_of whole.gone))
+    empty-hub (final_of s bs xs).hub (r.spent (final-stage s bs xs whole.run.steps whole.gone))
 
 pub none-left : NoPlaceIsLeft
 none-left s bs xs (duty.Ticket t) whole =

@@ -20,7 +20,7 @@ use Rattle.napi_types.specs.environment.Entering.{asked_change}
 use Rattle.napi_types.specs.environment.Environment.{Environment}
 use Rattle.napi_types.specs.environment.Hooked.{is_late, IsHooked}
 use Rattle.napi_types.specs.environment.Moments.{is_tearing}
-use Rattle.napi_types.specs.hub.Hub.{stage_of}
+use Rattle.napi_types.specs.hub.Hub.{IsStageOf}
 use Rattle.napi_types.specs.runs.Machine.{Machine}
 use Rattle.napi_types.specs.runs.Setting.{Setting, opens_with, opening_of, final_of}
 use Rattle.napi_types.specs.runs.Step.{Step, step}
@@ -34,7 +34,7 @@ use Rattle.napi_types.proofs.environment.FrameEnds.{ended-ends}
 use Rattle.napi_types.proofs.environment.HookedSteps.{unchanged, hooked-opening, hooked-opened, hooked-init, hooked-asked, hooked-ended, hooked-begun, hooked-phase, hooked-gone}
 use Rattle.napi_types.proofs.environment.Registrations.{asked-kept, ended-kept, begun-kept, phase-kept, torn-new, none-asked, none-ended, none-begun}
 use Rattle.napi_types.proofs.runs.SharedSteps.{StandsStill, shares-still, moves-still, others-still, end-stage}
-use Rattle.napi_types.proofs.runs.StepCases.{StepCase, calls, ends, opens, inits, begins, vanishes, shares, leaves, passes, moves, others, InPhase, step-case}
+use Rattle.napi_types.proofs.runs.StepCases.{StepCase, calls, ends, opens, inits, begins, vanishes, shares, leaves, passes, moves, others, InPhase, stage-in, still-in-phase, step-case}
 use Rattle.napi_types.proofs.runs.Runs.{along-entries, along-run}
 
 -- WHAT HOLDS
@@ -52,7 +52,7 @@ IsSpent r = r.cause ≡ cause.Hook → is_owed r.state ≡ false
 spent-kept : MovesKeep (All IsSpent)
 spent-kept = each-kept IsSpent (λ move r spent hook. unowed-moved move r.state (spent hook))
 
--- the hub is as far as the phase says; from `finals` on none is registered, and once the drain has come no hook is registered or due
+-- the hub has come to a stage of the phase; from `finals` on none is registered, and once the drain has come no hook is registered or due
 pub record Orderly (m : Machine) : Type 0 where
   pub stage : InPhase m
   pub hooked : IsHooked m.env
@@ -117,7 +117,7 @@ orderly-still : (m n : Machine) → StandsStill m n → Orderly m → Orderly n
 orderly-still m n still h =
     let same : SameHangings m.env n.env = hangings-parts m.env n.env still.hangings in
     record {
-      stage = still.stage ∙ h.stage ∙ ap stage_of (sym still.phase);
+      stage = still-in-phase m n still.phase still.stage h.stage;
       hooked = unchanged m.env n.env still.phase still.hangings h.hooked;
       settled = λ p. subst NoneRegistered (sym same.book) (h.settled (ap is_late (sym still.phase) ∙ p));
       spent = λ p. subst (λ book. All IsSpent book) (sym same.book) (h.spent (ap is_drained (sym still.phase) ∙ p));
@@ -130,7 +130,7 @@ orderly-ended m n v cut far same h =
     let course : SameCourse m.env d = course-parts m.env d (ended-keeps v cut m.env).course in
     let phase : n.env.phase ≡ m.env.phase = ap (λ (e : Environment). e.phase) same ∙ course.phase in
     record {
-      stage = far ∙ h.stage ∙ ap stage_of (sym phase);
+      stage = still-in-phase m n phase far h.stage;
       hooked = subst IsHooked (sym same) (hooked-ended v cut m.env h.hooked);
       settled = λ p. subst (λ (e : Environment). NoneRegistered e.book) (sym same) (none-ended m.env v cut (h.settled (ap is_late (sym phase) ∙ p)));
       spent =
@@ -144,7 +144,7 @@ orderly-step m _ h (calls c n may alone) =
     let d : Environment = (asked_change m.env c n).after in
     let course : SameCourse m.env d = course-parts m.env d (asked_change-fits m.env c n).course in
     record {
-      stage = h.stage ∙ ap stage_of (sym course.phase);
+      stage = subst (λ p. IsStageOf p m.hub.stage) (sym course.phase) h.stage;
       hooked = hooked-asked m.env c n h.hooked;
       settled = λ p. let late : is_late m.env.phase ≡ true = ap is_late (sym course.phase) ∙ p in none-asked m.env c n (late-tears m.env.phase late) (h.settled late);
       spent = λ p. let drained : is_drained m.env.phase ≡ true = ap is_drained (sym course.phase) ∙ p in spent-asked m.env c n (drained-tears m.env.phase drained) (h.spent drained);
@@ -159,7 +159,7 @@ orderly-step m _ h (begins n r there next may) = record {
   spent = λ p. begun-kept (All IsSpent) spent-kept m.env.phase n m.env.book (h.spent p);
 }
 orderly-step m _ h (vanishes last) = record {
-  stage = h.stage ∙ ap stage_of last;
+  stage = stage-in m phase.Finals h.stage last;
   hooked = hooked-gone m.env h.hooked;
   settled = λ p. h.settled (ap is_late last);
   spent = λ p. h.spent (ap is_drained last);

@@ -12,7 +12,7 @@ use Rattle.napi_types.specs.declared.entry.Phase.TheVariants as phase
 use Rattle.napi_types.specs.plain.Lists.{is_empty}
 use Rattle.napi_types.specs.parts.Pool.{executed_by, value_of_work}
 use Rattle.napi_types.specs.environment.Environment.{Environment}
-use Rattle.napi_types.specs.hub.Hub.{Hub, Stage, Before, Going, Looped, Drained, Final, is_past_drain, stage_of}
+use Rattle.napi_types.specs.hub.Hub.{Hub, Stage, Before, Going, Looped, Drained, Final, is_past_drain, IsStageOf}
 use Rattle.napi_types.specs.hub.HubMoves.{HubMove, hub_move, is_idle, is_quiet, is_spent}
 use Rattle.napi_types.specs.hub.HubStep.{actor_told}
 use Rattle.napi_types.specs.hub.Waits.{ThreadGoesOn, WorkerGoesOn, SomebodyGoesOn}
@@ -122,20 +122,21 @@ some-first : (o p : Option Event) (v : Event) → option_or (option_or o (Some v
 some-first None p v none = cc
 some-first (Some w) p v none = cc
 
-not-final : (e : Environment) (p : Phase) (later : Option Event) → p ≢ phase.Gone → option_or (local_choice_in e p) later ≡ None → stage_of p ≢ Final
-not-final e phase.Init later never none = λ is. cc
-not-final e phase.Live later never none = λ is. cc
-not-final e phase.Hooks later never none = λ is. cc
-not-final e phase.Drain later never none = λ is. cc
-not-final e phase.Finals later never none = absurd (some-first (ticket_choice e phase.Finals) later IsGone none)
-not-final e phase.Gone later never none = absurd (never refl)
+not-final : (e : Environment) (p : Phase) (s : Stage) (later : Option Event) → p ≢ phase.Gone → option_or (local_choice_in e p) later ≡ None → IsStageOf p s
+    → s ≢ Final
+not-final e phase.Init s later never none far = λ is. cc
+not-final e phase.Live s later never none far = λ is. cc
+not-final e phase.Hooks s later never none far = λ is. cc
+not-final e phase.Drain s later never none far = λ is. cc
+not-final e phase.Finals s later never none far = absurd (some-first (ticket_choice e phase.Finals) later IsGone none)
+not-final e phase.Gone s later never none far = absurd (never refl)
 
 pub runs-never-stand-still : RunsNeverStandStill
 runs-never-stand-still s bs xs run never alone none =
     let on : SomebodyGoesOn m.hub = somebody-goes m.hub (hub-kept IsShut step-shut (opening_of s) bs xs run refl)
     (hub-kept IsStaffed step-staffed (opening_of s) bs xs run (λ opened. refl))
     (λ w. hub-kept (IsServing w) (step-serves w) (opening_of s) bs xs run (λ runs. cc))
-    (λ final. not-final m.env m.env.phase (hub_choice m.hub) never none (sym (orderly-run s bs xs run).stage ∙ final))
+    (not-final m.env m.env.phase m.hub.stage (hub_choice m.hub) never none (orderly-run s bs xs run).stage)
     (none-last (local_choice m.env) (hub_choice m.hub) none) in
     (on, enters m on)
   where

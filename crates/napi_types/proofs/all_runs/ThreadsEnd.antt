@@ -13,7 +13,7 @@ use Rattle.napi_types.specs.plain.Lists.{has_number}
 use Rattle.napi_types.specs.plain.Room.{one_if}
 use Rattle.napi_types.specs.hub.Actors.{is_thread, left_after, left_along}
 use Rattle.napi_types.specs.hub.HistoryRoom.{work_places, function_places, reserved_history}
-use Rattle.napi_types.specs.hub.Hub.{stage_of, Hub, threads_left, workers_left, stage_places}
+use Rattle.napi_types.specs.hub.Hub.{Hub, threads_left, workers_left, stage_places}
 use Rattle.napi_types.specs.hub.HubSteps.{hub_step}
 use Rattle.napi_types.specs.runs.Machine.{Machine}
 use Rattle.napi_types.specs.runs.Run.{IsRunBy, final}
@@ -26,7 +26,7 @@ use Rattle.napi_types.proofs.hub.ThreadEnds.{step-left, step-threads, LeftSo}
 use Rattle.napi_types.proofs.runs.HubsOfRuns.{hub-kept, env-kept}
 use Rattle.napi_types.proofs.runs.Runs.{along-entries}
 use Rattle.napi_types.proofs.all_runs.HistoryRooms.{HubRoomy, HistorySuffices, hub-run, opening-hub}
-use Rattle.napi_types.proofs.all_runs.Rooms.{run-stage}
+use Rattle.napi_types.proofs.all_runs.Rooms.{final-stage}
 use Rattle.napi_types.proofs.all_runs.Scripts.{scripts-stay, fronts-keep}
 
 -- ALONG A RUN
@@ -88,7 +88,7 @@ no-thread-left h none =
 pub threads-come-to-their-end : ThreadsComeToTheirEnd
 threads-come-to-their-end s bs xs t calls below whole =
     let r : HubRoomy (HistorySuffices s) s.limits (final_of s bs xs) = hub-run (HistorySuffices s) s.limits (opening_of s) bs xs (opening-hub s) whole.run.steps in
-    let none : length (threads_left h) ≡ 0 = no-thread-left h (r.spent (run-stage s bs xs whole.run.steps ∙ ap stage_of whole.gone)) in
+    let none : length (threads_left h) ≡ 0 = no-thread-left h (r.spent (final-stage s bs xs whole.run.steps whole.gone)) in
     let so : LeftSo t h (left_along t (Some calls) xs) = along-left t (opening_of s) bs xs whole.run.steps (Some calls) refl in
     last (left_along t (Some calls) xs) (so ∙ gone (has_number t h.ended_threads) refl none)
   where

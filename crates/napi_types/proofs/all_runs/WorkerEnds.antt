@@ -24,7 +24,7 @@ use Rattle.napi_types.specs.parts.Pool.{executed_by}
 use Rattle.napi_types.specs.hub.Actors.{is_worker, WorkerState, Free, Working, Over, worker_after, does_next, worker_along}
 use Rattle.napi_types.specs.hub.GivenSteps.{is_timely, is_fresh_work, given_step, answer_unless_given, work_number}
 use Rattle.napi_types.specs.hub.HistoryRoom.{work_places, function_places, reserved_history}
-use Rattle.napi_types.specs.hub.Hub.{Hub, left_of, threads_left, workers_left, stage_of, stage_places}
+use Rattle.napi_types.specs.hub.Hub.{Hub, left_of, threads_left, workers_left, stage_places}
 use Rattle.napi_types.specs.hub.HubCalls.{hub_answer, is_thread_call}
 use Rattle.napi_types.specs.hub.HubEvents.{environment_event, loop_end_step, begin_step, close_step, finish_step, frame_end_step}
 use Rattle.napi_types.specs.hub.HubMoves.{HubMove, Delivers, Closes, Finishes, without_duty, hub_move}
@@ -46,7 +46,7 @@ use Rattle.napi_types.proofs.hub.WorkerTurns.{WorkerStands, StandsSo, next-stand
 use Rattle.napi_types.proofs.runs.HubEntries.{EntryOf, leaves_hub, steps_hub, case-of}
 use Rattle.napi_types.proofs.all_runs.HistoryRooms.{HubRoomy, hub-run, opening-hub, HistorySuffices}
 use Rattle.napi_types.proofs.all_runs.Orderly.{Orderly, along-orderly, orderly-opens}
-use Rattle.napi_types.proofs.all_runs.Rooms.{run-stage}
+use Rattle.napi_types.proofs.all_runs.Rooms.{final-stage}
 use Rattle.napi_types.proofs.hub.ThreadEnds.{is_end}
 
 -- WHO MADE THE ENTRY
@@ -320,7 +320,7 @@ pub workers-finish : WorkersFinishWhatTheyStart
 workers-finish s bs xs w below whole =
     let h : Hub = (final_of s bs xs).hub in
     let r : HubRoomy (HistorySuffices s) s.limits (final_of s bs xs) = hub-run (HistorySuffices s) s.limits (opening_of s) bs xs (opening-hub s) whole.run.steps in
-    let none : length (workers_left h) ≡ 0 = none-left h (r.spent (run-stage s bs xs whole.run.steps ∙ ap stage_of whole.gone)) in
+    let none : length (workers_left h) ≡ 0 = none-left h (r.spent (final-stage s bs xs whole.run.steps whole.gone)) in
     let k : TurnsAlong w Free xs (opening_of s).hub h =
     run-turns w (opening_of s) bs xs Free (orderly-opens s) (record { stands = refl; over = refl }) whole.run.steps in
     let count : h.workers ≡ s.workers = k.workers in

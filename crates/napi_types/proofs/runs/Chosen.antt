@@ -1,5 +1,5 @@
 -- When each event is chosen, and what it says that nothing is.
-use Rattle.std.proofs.Common.{◌≡◌, ◌∙◌, sym, ap, ℕ, nat_lt, Bool, true, false, cond, List, [], ◌∷◌, refl, Option, Some, None, option_map, ◌⊎◌, inl, inr, subst, ◌<◌}
+use Rattle.std.proofs.Common.{◌≡◌, ◌∙◌, ℕ, nat_lt, Bool, true, false, cond, List, [], ◌∷◌, refl, Option, Some, None, option_map, ◌⊎◌, inl, inr, subst, ◌<◌}
 use Rattle.std.proofs.lemmas.Bool.{ltb-true}
 use Rattle.std.specs.Option.{option_or}
 use Rattle.napi_types.specs.declared.entry.LoopEnd.TheVariants as loop_end
@@ -8,7 +8,7 @@ use Rattle.napi_types.specs.declared.entry.Phase.TheVariants as phase
 use Rattle.napi_types.specs.parts.Book.{lowest_due}
 use Rattle.napi_types.specs.parts.Hooks.{Hook, last_hook}
 use Rattle.napi_types.specs.environment.Environment.{Environment}
-use Rattle.napi_types.specs.hub.Hub.{Hub, stage_of, Stage, Before, Going, Looped, Drained, Final}
+use Rattle.napi_types.specs.hub.Hub.{Hub, Stage, Before, Going, Looped, Drained, Final}
 use Rattle.napi_types.specs.hub.HubMoves.{HubMove, hub_move, is_idle, is_quiet, idle_reason, is_spent}
 use Rattle.napi_types.specs.runs.Choice.{local_choice, local_choice_in, hub_choice, hub_choice_at, choice, finals_choice}
 use Rattle.napi_types.specs.runs.Loop.{Event, Opens, Inits, Tickets, Moves, Goes, EndsLoop, Drains, FinalsCome, IsGone}
@@ -134,15 +134,15 @@ chosen-by m v is = by (local_choice m.env) refl is
     by (Some w) here is = inl (here ∙ is)
     by None here is = inr (here, is)
 
--- where the hub is as far as the phase says, it is one of its choices there, where the environment has none
-pub chosen-in-phase : (m : Machine) (v : Event) → m.hub.stage ≡ stage_of m.env.phase → choice m ≡ Some v
-    → OwnChoice m.env m.env.phase v ⊎ NoChoice m.env m.env.phase × HubChoice m.hub (stage_of m.env.phase) v
-chosen-in-phase m v far is = by (chosen-by m v is)
+-- it is one of the environment's in its phase, or one of the hub's where that has come so far
+pub chosen-in-phase : (m : Machine) (v : Event) → choice m ≡ Some v
+    → OwnChoice m.env m.env.phase v ⊎ NoChoice m.env m.env.phase × HubChoice m.hub m.hub.stage v
+chosen-in-phase m v is = by (chosen-by m v is)
   where
     by : (local_choice m.env ≡ Some v) ⊎ ((local_choice m.env ≡ None) × (hub_choice m.hub ≡ Some v))
-        → OwnChoice m.env m.env.phase v ⊎ NoChoice m.env m.env.phase × HubChoice m.hub (stage_of m.env.phase) v
+        → OwnChoice m.env m.env.phase v ⊎ NoChoice m.env m.env.phase × HubChoice m.hub m.hub.stage v
     by (inl mine) = inl (own-choice m.env m.env.phase v mine)
-    by (inr its) = inr (no-choice m.env m.env.phase its.0, hub-choice m.hub (stage_of m.env.phase) v (sym (ap (hub_choice_at m.hub) far) ∙ its.1))
+    by (inr its) = inr (no-choice m.env m.env.phase its.0, hub-choice m.hub m.hub.stage v its.1)
 
 -- a move is the hub's next one
 pub chosen-move : (m : Machine) (move : HubMove) → choice m ≡ Some (Moves move) → hub_move m.hub ≡ Some move

@@ -1,5 +1,5 @@
--- What each form of a step is, where the hub is as far as the phase says: eleven cases, since an event is told by the phase.
-use Rattle.std.proofs.Common.{◌≡◌, ◌≢◌, ℕ, Bool, true, false, IsTrue, [], length, refl, ap, ◌∙◌, Option, Some, None, option_map, ◌⊎◌, inl, inr}
+-- What each form of a step is, where the hub has come to a stage of the phase: eleven cases, since an event is told by the phase.
+use Rattle.std.proofs.Common.{◌≡◌, ◌≢◌, ℕ, Bool, true, false, IsTrue, [], length, refl, ap, sym, subst, ◌∙◌, Option, Some, None, option_map, ◌⊎◌, inl, inr}
 use Rattle.std.specs.Option.{unwrap_or}
 use Rattle.napi_types.specs.declared.call.Ask.{Ask}
 use Rattle.napi_types.specs.declared.call.Call.{Call}
@@ -24,7 +24,7 @@ use Rattle.napi_types.specs.environment.Changes.{opening_change, init_change, go
 use Rattle.napi_types.specs.environment.Ends.{end_change}
 use Rattle.napi_types.specs.environment.Entering.{asked_change}
 use Rattle.napi_types.specs.environment.Tickets.{ticket_change, ticket_in, next_ticket}
-use Rattle.napi_types.specs.hub.Hub.{stage_of, Stage, Before, Going, Looped, Drained, stage_after}
+use Rattle.napi_types.specs.hub.Hub.{IsStageOf, Stage, Before, Going, Looped, Drained, stage_after}
 use Rattle.napi_types.specs.hub.HubMoves.{HubMove, hub_move}
 use Rattle.napi_types.specs.hub.HubEvents.{is_moving}
 use Rattle.napi_types.specs.hub.HubSteps.{hub_step}
@@ -46,11 +46,11 @@ event_before phase.Drain = host.Drain
 event_before phase.Finals = host.Finals
 event_before _ = host.Gone
 
--- the hub starts the phase p, with this result: its entry is that event's, it is then as far as p says, and the drain comes only once no hook is left
+-- the hub starts the phase p, with this result: its entry is that event's, it has then come to a stage of p, and the drain comes only once no hook is left
 pub record Passes (m : Machine) (p : Phase) (o : Out) : Type 0 where
   pub next : next_phase m.env.phase ≡ Some p
   pub never : p ≢ phase.Gone
-  pub far : (by_hub m (event_before p) p o).after.hub.stage ≡ stage_of p
+  pub far : IsStageOf p (by_hub m (event_before p) p o).after.hub.stage
   pub entry : (by_hub m (event_before p) p o).entry ≡ host_entry (event_before p) o
   pub left : p ≡ phase.Drain → m.env.hooks ≡ []
 
@@ -78,9 +78,17 @@ pub data StepCase (m : Machine) : Step → Type 0 where
   -- a thread or a worker makes an entry
   others : (x : Entry) → is_environment x.actor ≡ false → StepCase m (other_step m x)
 
--- the hub is as far as the phase says
+-- the hub has come to a stage of the phase
 abbrev pub InPhase : Machine → Type 0
-InPhase m = m.hub.stage ≡ stage_of m.env.phase
+InPhase m = IsStageOf m.env.phase m.hub.stage
+
+-- in a phase that is known
+pub stage-in : (m : Machine) (p : Phase) → InPhase m → m.env.phase ≡ p → IsStageOf p m.hub.stage
+stage-in m p far here = subst (λ q. IsStageOf q m.hub.stage) here far
+
+-- where phase and stage are as before
+pub still-in-phase : (m n : Machine) → n.env.phase ≡ m.env.phase → n.hub.stage ≡ m.hub.stage → InPhase m → InPhase n
+still-in-phase m n phase stage far = subst (λ p. IsStageOf p n.hub.stage) (sym phase) (subst (IsStageOf m.env.phase) (sym stage) far)
 
 -- EVENTS WHERE NO FRAME STANDS
 -- the hub goes from one stage to the next
@@ -97,7 +105,7 @@ loop_end-case m w here far =
     passes phase.Hooks (out.Ended w) (record { next = rw here refl; never = λ z. cc; far = stage-moved m host.LoopEnd Going far; entry = refl; left = λ z. cc })
 
 -- one that the environment decides alone, ..
-own-case : (m : Machine) (p : Phase) (v : Event) → m.env.phase ≡ p → m.hub.stage ≡ stage_of p → OwnChoice m.env p v → IsTrue (event_step m v).may
+own-case : (m : Machine) (p : Phase) (v : Event) → m.env.phase ≡ p → IsStageOf p m.hub.stage → OwnChoice m.env p v → IsTrue (event_step m v).may
     → StepCase m (event_step m v)
 own-case m _ _ here far (choices.opens opened) may = opens
 own-case m _ _ here far (choices.inits opened left) may = inits m.env.inits
@@ -110,28 +118,27 @@ own-case m _ _ here far (choices.due_at_end n lowest) may = ticket-case m n (reg
 own-case m _ _ here far (choices.ends lowest) may = vanishes here
 
 -- .. or the hub where it decides none
-hub-case : (m : Machine) (p : Phase) (v : Event) → m.env.frames ≡ [] → m.env.phase ≡ p → m.hub.stage ≡ stage_of p → NoChoice m.env p
-    → HubChoice m.hub (stage_of p) v
-    → StepCase m (event_step m v)
-hub-case m _ _ alone here far (choices.begun opened left) choices.goes =
+hub-case : (m : Machine) (p : Phase) (s : Stage) (v : Event) → m.env.frames ≡ [] → m.env.phase ≡ p → m.hub.stage ≡ s → IsStageOf p s
+    → HubChoice m.hub s v → NoChoice m.env p → StepCase m (event_step m v)
+hub-case m _ _ _ alone here far shown choices.goes (choices.begun opened left) =
     passes phase.Live out.Nothing (record { next = rw here refl; never = λ z. cc; far = stage-moved m host.Go Before far; entry = refl; left = λ z. cc })
-hub-case m _ _ alone here far (choices.waits unasked lowest) (choices.idles none idle) = loop_end-case m loop_end.Idle here far
-hub-case m _ _ alone here far (choices.waits unasked lowest) (choices.quiets none busy quiet) = loop_end-case m loop_end.Quiet here far
-hub-case m _ _ alone here far (choices.waits unasked lowest) (choices.moves_in_loop move next) = moves move next (ap is_moving far) alone
-hub-case m _ _ alone here far (choices.unhooked none) choices.drains =
+hub-case m _ _ _ alone here far shown (choices.idles none idle) (choices.waits unasked lowest) = loop_end-case m loop_end.Idle here far
+hub-case m _ _ _ alone here far shown (choices.quiets none busy quiet) (choices.waits unasked lowest) = loop_end-case m loop_end.Quiet here far
+hub-case m _ _ _ alone here far shown (choices.moves_in_loop move next) (choices.waits unasked lowest) = moves move next (ap is_moving far) alone
+hub-case m _ _ _ alone here far shown choices.drains (choices.unhooked none) =
     passes phase.Drain (out.Unsigned (length m.hub.pool.queued))
     (record { next = rw here refl; never = λ z. cc; far = stage-moved m host.Drain Looped far; entry = refl; left = λ z. none })
-hub-case m _ _ alone here far choices.drained (choices.finals none spent) =
+hub-case m _ _ _ alone here far shown (choices.finals none spent) choices.drained =
     passes phase.Finals out.Nothing (record { next = rw here refl; never = λ z. cc; far = stage-moved m host.Finals Drained far; entry = refl; left = λ z. cc })
-hub-case m _ _ alone here far choices.drained (choices.moves_at_end move next) = moves move next (ap is_moving far) alone
-hub-case m _ _ alone here far choices.gone c = elim c [ ]
+hub-case m _ _ _ alone here far shown (choices.moves_at_end move next) choices.drained = moves move next (ap is_moving far) alone
+hub-case m _ _ _ alone here far shown _ _ = cc
 
 event-case : (m : Machine) (v : Event) → m.env.frames ≡ [] → InPhase m → choice m ≡ Some v → IsTrue (event_step m v).may → StepCase m (event_step m v)
-event-case m v alone far next may = by (chosen-in-phase m v far next)
+event-case m v alone far next may = by (chosen-in-phase m v next)
   where
-    by : OwnChoice m.env m.env.phase v ⊎ NoChoice m.env m.env.phase × HubChoice m.hub (stage_of m.env.phase) v → StepCase m (event_step m v)
+    by : OwnChoice m.env m.env.phase v ⊎ NoChoice m.env m.env.phase × HubChoice m.hub m.hub.stage v → StepCase m (event_step m v)
     by (inl mine) = own-case m m.env.phase v refl far mine may
-    by (inr its) = hub-case m m.env.phase v alone refl far its.0 its.1
+    by (inr its) = hub-case m m.env.phase m.hub.stage v alone refl refl far its.1 its.0
 
 -- EACH STEP
 -- each form of a step is a case, that of an event by the phase

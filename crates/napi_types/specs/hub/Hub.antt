@@ -1,5 +1,5 @@
 -- The hub: the works, the thread-safe functions, which threads and workers have ended, and how far the run has come.
-use Rattle.std.specs.Prelude.{ℕ, Bool, true, false, not, List, [], filter, Option, Some, None}
+use Rattle.std.specs.Prelude.{◌≡◌, ℕ, Bool, true, false, not, List, [], filter, Option, Some, None}
 use Rattle.std.specs.List.{range_with_len}
 use Rattle.napi_types.specs.declared.duties.DueInfo.{DueInfo}
 use Rattle.napi_types.specs.declared.entry.HostStep.{HostStep}
@@ -78,11 +78,11 @@ stage_places Looped = 2
 stage_places Drained = 1
 stage_places Final = 0
 
--- which of the hub's events happened, as the phase shows it
-abbrev pub stage_of : Phase → Stage
-stage_of phase.Init = Before
-stage_of phase.Live = Going
-stage_of phase.Hooks = Looped
-stage_of phase.Drain = Drained
-stage_of phase.Finals = Final
-stage_of phase.Gone = Final
+-- a stage to which the hub may have come in this phase
+abbrev pub IsStageOf : Phase → Stage → Type 0
+IsStageOf phase.Init s = s ≡ Before
+IsStageOf phase.Live s = s ≡ Going
+IsStageOf phase.Hooks s = s ≡ Looped
+IsStageOf phase.Drain s = s ≡ Drained
+IsStageOf phase.Finals s = s ≡ Final
+IsStageOf phase.Gone s = s ≡ Final
