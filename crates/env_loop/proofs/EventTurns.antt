@@ -19,7 +19,7 @@ use Rattle.napi_types.specs.hub.Hub.{Hub, IsStageOf}
 use Rattle.napi_types.specs.hub.HubMoves.{is_spent}
 use Rattle.napi_types.specs.hub.HubSteps.{IsHubNext, hub_step, hub_along}
 use Rattle.napi_types.specs.runs.Begins.{told_at}
-use Rattle.napi_types.specs.runs.Choice.{local_choice, hub_choice}
+use Rattle.napi_types.specs.runs.Choice.{local_choice, hub_choice, waiting_hooks}
 use Rattle.napi_types.specs.runs.Loop.{Event, EndsLoop}
 use Rattle.napi_types.specs.runs.Machine.{Machine}
 use Rattle.napi_types.specs.runs.Plan.{frames_ask, after_event, with_addon_gifts}
@@ -106,8 +106,8 @@ none-unasked e needs unasked = by (event-needs (local_choice e) e.phase needs)
         absurd (unasked (ends.1 ∙ ap (λ w. Some (EndsLoop w)) (ends-live e e.phase ends.0 (own-choice e e.phase (EndsLoop ends.0) ends.1)).1))
 
 -- where it decides none, the next event is the hub's choice
-pub of-hub : (e : Environment) (h : Hub) → local_choice e ≡ None → hub_event e h ≡ hub_choice h
-of-hub e h none = ap (λ o. option_or o (hub_choice h)) none
+pub of-hub : (e : Environment) (h : Hub) → local_choice e ≡ None → hub_event e h ≡ hub_choice h (waiting_hooks e)
+of-hub e h none = ap (λ o. option_or o (hub_choice h (waiting_hooks e))) none
 
 -- A TURN AT THE HUB
 -- what is known of a run and its hub where nothing is owed and the hub is needed

@@ -9,7 +9,7 @@ use Rattle.napi_types.specs.declared.entry.Phase.TheVariants as phase
 use Rattle.napi_types.specs.plain.Entries.{host_entry}
 use Rattle.napi_types.specs.environment.Changes.{in_phase}
 use Rattle.napi_types.specs.hub.HubMoves.{HubMove, hub_move, idle_reason, loop_end_of}
-use Rattle.napi_types.specs.runs.Choice.{local_choice, hub_choice, hub_choice_at}
+use Rattle.napi_types.specs.runs.Choice.{local_choice, hub_choice, hub_choice_at, waiting_hooks}
 use Rattle.napi_types.specs.runs.Loop.{Moves, EndsLoop}
 use Rattle.env_core.specs.Core.{Core, after_phase}
 use Rattle.shared_hub.specs.HubStates.{HubSeen, AddsEntry}
@@ -24,14 +24,15 @@ pub loop-next : (n : Numbers) (run : Run) (before : HubSeen) (move : Option HubM
     → local_choice run.core.env ≢ Some (EndsLoop loop_end.Exit) → hub_move before.hub ≡ move
     → hub_event run.core.env before.hub ≡ option_or (option_map Moves move) (option_map EndsLoop (idle_reason before.hub))
 loop-next n run before move at here unasked is =
-    of-hub run.core.env before.hub (none-unasked run.core.env at.needs unasked) ∙ ap (hub_choice_at before.hub) (far-in n run before phase.Live at here)
+    of-hub run.core.env before.hub (none-unasked run.core.env at.needs unasked)
+    ∙ ap (hub_choice_at before.hub (waiting_hooks run.core.env)) (far-in n run before phase.Live at here)
     ∙ ap (λ o. option_or (option_map Moves o) (option_map EndsLoop (idle_reason before.hub))) is
 
 -- .. and where there is none the loop ends for the hub's reason, if there is one; once exit was asked it ends for that
 loop_end-next : (n : Numbers) (run : Run) (before : HubSeen) (exit : Bool) → AtHub n run before → run.core.env.phase ≡ phase.Live
     → (exit ≡ true) ↔ (local_choice run.core.env ≡ Some (EndsLoop loop_end.Exit)) → (exit ≡ false → hub_move before.hub ≡ None)
     → hub_event run.core.env before.hub ≡ option_map EndsLoop (loop_end_of exit false before.hub)
-loop_end-next n run before true at here is none = ap (λ o. option_or o (hub_choice before.hub)) (is.0 refl)
+loop_end-next n run before true at here is none = ap (λ o. option_or o (hub_choice before.hub (waiting_hooks run.core.env))) (is.0 refl)
 loop_end-next n run before false at here is none =
     loop-next n run before None at here (λ e. let no : false ≡ true = is.1 e in cc) (none refl)
     ∙ ap (λ (o : Option HubMove). option_map EndsLoop (cond (is_some o) None (idle_reason before.hub))) (sym (none refl))

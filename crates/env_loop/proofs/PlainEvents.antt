@@ -19,7 +19,7 @@ use Rattle.napi_types.specs.hub.HubEvents.{close_step, finish_step}
 use Rattle.napi_types.specs.hub.HubMoves.{Closes, Finishes, hub_move, is_spent}
 use Rattle.napi_types.specs.hub.HubOwners.{IsOwnedHub}
 use Rattle.napi_types.specs.hub.HubSteps.{hub_step}
-use Rattle.napi_types.specs.runs.Choice.{local_choice, hub_choice_at}
+use Rattle.napi_types.specs.runs.Choice.{local_choice, hub_choice_at, waiting_hooks}
 use Rattle.napi_types.specs.runs.Loop.{Event, Moves, Goes, EndsLoop, Drains, FinalsCome}
 use Rattle.napi_types.proofs.environment.HookedSteps.{hooked-phase}
 use Rattle.napi_types.proofs.environment.Owners.{owned-phase}
@@ -248,7 +248,8 @@ pub go-moves : (n : Numbers) (run : Run) (before after : HubSeen) (new : Core) (
 go-moves n run before after new position at here adds noted made =
     let far : before.hub.stage ≡ Before = far-in n run before phase.Init at here in
     let none : local_choice run.core.env ≡ None = none-local run.core.env at.needs (λ live. let no : phase.Init ≡ phase.Live = sym here ∙ live in cc) in
-    let next : hub_event run.core.env before.hub ≡ Some Goes = of-hub run.core.env before.hub none ∙ ap (hub_choice_at before.hub) far in
+    let next : hub_event run.core.env before.hub ≡ Some Goes =
+    of-hub run.core.env before.hub none ∙ ap (hub_choice_at before.hub (waiting_hooks run.core.env)) far in
     record {
       event = Goes;
       entry = host_entry host.Go out.Nothing;

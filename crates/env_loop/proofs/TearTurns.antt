@@ -14,7 +14,7 @@ use Rattle.napi_types.specs.environment.Tickets.{ticket_in, next_ticket}
 use Rattle.napi_types.specs.hub.Hub.{Hub, Stage, Looped, Drained}
 use Rattle.napi_types.specs.hub.HubEvents.{delivery_entry}
 use Rattle.napi_types.specs.hub.HubMoves.{HubMove, Delivers, Closes, Finishes, hub_move}
-use Rattle.napi_types.specs.runs.Choice.{local_choice_in, hub_choice}
+use Rattle.napi_types.specs.runs.Choice.{local_choice_in, hub_choice, waiting_hooks}
 use Rattle.napi_types.specs.runs.Loop.{Event, Moves, Drains, FinalsCome}
 use Rattle.napi_types.proofs.runs.Chosen.{NoChoice, begun, waits, unhooked, drained, gone, no-choice, HubChoice, goes, idles, quiets, drains, finals, moves_in_loop, moves_at_end, hub-choice, chosen-move}
 use Rattle.env_core.specs.Core.{Core, after_phase, at_position}
@@ -56,7 +56,7 @@ StageTears s e = ((s ≡ Looped) × (e.phase ≡ phase.Hooks)) ⊎ ((s ≡ Drain
 
 -- the event that a step of the teardown makes
 abbrev pub step_event : Environment → Hub → Option Event
-step_event e h = tear_event e.phase (is_some (next_ticket e)) h
+step_event e h = tear_event e.phase (is_some (next_ticket e)) (waiting_hooks e) h
 
 tearing : (n : Numbers) (run : Run) (before : HubSeen) → TearsAt n run before → IsTearing run.core.env
 tearing n run before t = by run.core.env.phase refl (no-choice run.core.env run.core.env.phase (none-local run.core.env t.at.needs t.not_live))
@@ -72,7 +72,8 @@ tearing n run before t = by run.core.env.phase refl (no-choice run.core.env run.
     by _ here gone = let no_hub : turn.Gone ≡ turn.NeedsHub = sym (ap (λ p. event_turn (local_choice_in e p) p) here) ∙ t.at.needs in cc
 
 -- so the environment's turn is not next, and the next event is the hub's choice
-torn-hub : (n : Numbers) (run : Run) (before : HubSeen) → TearsAt n run before → hub_event run.core.env before.hub ≡ hub_choice before.hub
+torn-hub : (n : Numbers) (run : Run) (before : HubSeen) → TearsAt n run before
+    → hub_event run.core.env before.hub ≡ hub_choice before.hub (waiting_hooks run.core.env)
 torn-hub n run before t = of-hub run.core.env before.hub (none-local run.core.env t.at.needs t.not_live)
 
 pub torn-local : (n : Numbers) (run : Run) (before : HubSeen) → TearsAt n run before
@@ -105,7 +106,8 @@ pub record Torn (core : Core) (before : HubSeen) (new : Core) (after : HubSeen) 
 
 module _ (J : Type 0) (n : Numbers) (run : Run) (before after : HubSeen) (new : Core) (t : TearsAt n run before) where
   torn-by : (v : Event) → hub_event run.core.env before.hub ≡ Some v → IsStepOf {J = J} v tear.Moved → Torn run.core before new after (Some v)
-      → (s : Stage) → HubChoice before.hub s v → before.hub.stage ≡ s → StageTears s run.core.env → MovesPlainly run.core before new after
+      → (s : Stage) → HubChoice before.hub (waiting_hooks run.core.env) s v → before.hub.stage ≡ s → StageTears s run.core.env
+      → MovesPlainly run.core before new after
   torn-by v next moved told _ drains far (inl here) = record {
     event = Drains;
     entry = host_entry host.Drain (out.Unsigned (length before.hub.pool.queued));
@@ -142,35 +144,37 @@ module _ (J : Type 0) (n : Numbers) (run : Run) (before after : HubSeen) (new : 
   stages (inl hooks) = inl (far-in n run before phase.Hooks t.at hooks.0, hooks.0)
   stages (inr drain) = inr (far-in n run before phase.Drain t.at drain, drain)
 
-  torn-of : (o : Option Event) → o ≡ hub_choice before.hub → hub_choice before.hub ≢ None → IfSome o (λ v. IsStepOf {J = J} v tear.Moved)
-      → Torn run.core before new after o → MovesPlainly run.core before new after
+  torn-of : (o : Option Event) → o ≡ hub_choice before.hub (waiting_hooks run.core.env) → hub_choice before.hub (waiting_hooks run.core.env) ≢ None
+      → IfSome o (λ v. IsStepOf {J = J} v tear.Moved) → Torn run.core before new after o → MovesPlainly run.core before new after
   torn-of None is some moved told = absurd (some (sym is))
   torn-of (Some v) is some moved told =
-      torn-by v (torn-hub n run before t ∙ sym is) moved told before.hub.stage (hub-choice before.hub before.hub.stage v (sym is)) refl
-      (stages (tearing n run before t))
+      torn-by v (torn-hub n run before t ∙ sym is) moved told before.hub.stage
+      (hub-choice before.hub (waiting_hooks run.core.env) before.hub.stage v (sym is)) refl (stages (tearing n run before t))
 
-  pub torn-moves : hub_choice before.hub ≢ None → IfSome (step_event run.core.env before.hub) (λ v. IsStepOf {J = J} v tear.Moved)
+  pub torn-moves : hub_choice before.hub (waiting_hooks run.core.env) ≢ None → IfSome (step_event run.core.env before.hub) (λ v. IsStepOf {J = J} v tear.Moved)
       → Torn run.core before new after (step_event run.core.env before.hub) → MovesPlainly run.core before new after
   torn-moves some moved told =
-      torn-of (step_event run.core.env before.hub) (ap (λ b. cond b None (hub_choice before.hub)) (torn-local n run before t)) some moved told
+      torn-of (step_event run.core.env before.hub) (ap (λ b. cond b None (hub_choice before.hub (waiting_hooks run.core.env))) (torn-local n run before t)) some
+      moved told
 
 move-next : (l : Limits) (core : Core) (h : Hub) (move : HubMove) → hub_event core.env h ≡ Some (Moves move) → hub_move h ≡ Some move
 move-next l core h move next = chosen-move (machine_of l core h []) move next
 
 -- where a frame begins, it is that of the hub's next duty
 pub torn-begins : (J : Type 0) (n : Numbers) (run : Run) (before after : HubSeen) (d : DueInfo) (job : Option J) → TearsAt n run before
-    → hub_choice before.hub ≢ None → IfSome (step_event run.core.env before.hub) (λ v. IsStepOf v (tear.Begin d job))
+    → hub_choice before.hub (waiting_hooks run.core.env) ≢ None → IfSome (step_event run.core.env before.hub) (λ v. IsStepOf v (tear.Begin d job))
     → IfSome (step_event run.core.env before.hub) (λ v. AddsEvent before v after) → DeliversNext run before after d
 torn-begins J n run before after d job t some begins adds =
-    by (step_event run.core.env before.hub) (ap (λ b. cond b None (hub_choice before.hub)) (torn-local n run before t)) begins adds
+    by (step_event run.core.env before.hub) (ap (λ b. cond b None (hub_choice before.hub (waiting_hooks run.core.env))) (torn-local n run before t)) begins adds
   where
-    with_duty : (e : DueInfo) → hub_choice before.hub ≡ Some (Moves (Delivers e)) → AddsEntry before (delivery_entry e) after → DeliversNext run before after e
+    with_duty : (e : DueInfo) → hub_choice before.hub (waiting_hooks run.core.env) ≡ Some (Moves (Delivers e)) → AddsEntry before (delivery_entry e) after
+        → DeliversNext run before after e
     with_duty e is adds =
         let next : hub_event run.core.env before.hub ≡ Some (Moves (Delivers e)) = torn-hub n run before t ∙ is in
         record { next = next; move = move-next n.limits run.core before.hub (Delivers e) next; adds = adds }
 
-    by : (o : Option Event) → o ≡ hub_choice before.hub → IfSome o (λ v. IsStepOf v (tear.Begin d job)) → IfSome o (λ v. AddsEvent before v after)
-        → DeliversNext run before after d
+    by : (o : Option Event) → o ≡ hub_choice before.hub (waiting_hooks run.core.env) → IfSome o (λ v. IsStepOf v (tear.Begin d job))
+        → IfSome o (λ v. AddsEvent before v after) → DeliversNext run before after d
     by None is begins adds = absurd (some (sym is))
     by (Some (Moves (Delivers e))) is begins adds = subst (λ i. DeliversNext run before after i) (sym begins) (with_duty e (sym is) adds)
     by (Some (Moves (Closes k))) is begins adds = cc

@@ -18,7 +18,7 @@ use Rattle.napi_types.specs.environment.Owners.{IsOwned}
 use Rattle.napi_types.specs.environment.Tickets.{ticket_change, ticket_in, next_ticket}
 use Rattle.napi_types.specs.hub.Hub.{Hub}
 use Rattle.napi_types.specs.runs.Begins.{duty_info}
-use Rattle.napi_types.specs.runs.Choice.{hub_choice, local_choice, local_choice_in}
+use Rattle.napi_types.specs.runs.Choice.{hub_choice, local_choice, local_choice_in, waiting_hooks}
 use Rattle.napi_types.specs.runs.Loop.{Opens, Inits, Tickets, EndsLoop, IsGone}
 use Rattle.napi_types.specs.runs.Machine.{Machine}
 use Rattle.napi_types.specs.runs.Plan.{with_addon_gifts, with_begun_gifts}
@@ -107,7 +107,8 @@ same-ticket e n k is next = is ∙ ap (option_map Tickets) (sym (next-ticket-is 
 ticket-next : (m : Machine) (n : ℕ) (r : Registration) → IsHooked m.env → m.env.frames ≡ [] → local_choice m.env ≡ Some (Tickets n)
     → registration_at m.env.book n ≡ Some r → step m (ask.Leave None) (ticket_change n r m.env).entry ≡ locally m (ticket_change n r m.env) true
 ticket-next m n r hooked alone is there =
-    ap (env_step m (ask.Leave None) (ticket_change n r m.env).entry.reply.out) alone ∙ ap (λ o. chosen m (option_or o (hub_choice m.hub))) is ∙ ap (ticket_step m n) there
+    ap (env_step m (ask.Leave None) (ticket_change n r m.env).entry.reply.out) alone
+    ∙ ap (λ o. chosen m (option_or o (hub_choice m.hub (waiting_hooks m.env)))) is ∙ ap (ticket_step m n) there
     ∙ ap (locally m (ticket_change n r m.env)) (next-may m.env n r hooked (next-ticket-is m.env n is).next there)
 
 ticket-grown : (s : Setting) (core : Core) (hub : Hub) (history : List Entry) (all : AddonStates) (firsts : List (List DueInfo)) (own : RecordsOwn s core hub history all firsts)

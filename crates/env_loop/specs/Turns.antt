@@ -22,7 +22,7 @@ use Rattle.napi_types.specs.environment.Ends.{end_change}
 use Rattle.napi_types.specs.environment.Environment.{Environment}
 use Rattle.napi_types.specs.hub.Hub.{Hub}
 use Rattle.napi_types.specs.hub.HubMoves.{Delivers}
-use Rattle.napi_types.specs.runs.Choice.{local_choice, hub_choice}
+use Rattle.napi_types.specs.runs.Choice.{local_choice, hub_choice, waiting_hooks}
 use Rattle.napi_types.specs.runs.Loop.{Event, Inits, Tickets, Moves, EndsLoop, IsGone}
 use Rattle.addon_trait.specs.Addons.{OthersStay}
 use Rattle.env_core.specs.Core.{Core, after_change}
@@ -87,7 +87,7 @@ begins_next e = begins_over e e.frames
 -- A TURN AT THE HUB
 -- the event that is next at the hub, where nothing is owed: the end of the loop, once exit was asked, or else the one that the hub chooses
 abbrev pub hub_event : Environment → Hub → Option Event
-hub_event e h = option_or (local_choice e) (hub_choice h)
+hub_event e h = option_or (local_choice e) (hub_choice h (waiting_hooks e))
 
 -- what the duty tells whose frame an event of the hub begins, where it begins one
 abbrev pub delivery_told : Option Event → Option DueInfo

@@ -1,5 +1,5 @@
 -- The steps of the teardown.
-use Rattle.std.specs.Prelude.{◌≡◌, Bool, true, false, cond, length, Option, Some, None}
+use Rattle.std.specs.Prelude.{◌≡◌, ℕ, Bool, true, false, cond, length, Option, Some, None}
 use Rattle.napi_types.specs.declared.duties.DueInfo.{DueInfo}
 use Rattle.napi_types.specs.declared.entry.HostStep.TheVariants as host
 use Rattle.napi_types.specs.declared.entry.Out.TheVariants as out
@@ -28,9 +28,9 @@ is_local_turn phase.Hooks local = local
 is_local_turn phase.Drain local = false
 is_local_turn _ local = true
 
--- the event that a step makes of the hub: the one that it chooses, where the environment's turn is not next
-abbrev pub tear_event : Phase → Bool → Hub → Option Event
-tear_event p local h = cond (is_local_turn p local) None (hub_choice h)
+-- the event that a step makes of the hub: the one that it chooses where so many hooks wait, and the environment's turn is not next
+abbrev pub tear_event : Phase → Bool → ℕ → Hub → Option Event
+tear_event p local waiting h = cond (is_local_turn p local) None (hub_choice h waiting)
 
 -- the phase after the event: `drain` and `finals` start the one that is called so
 abbrev pub phase_after : Option Event → Phase → Phase

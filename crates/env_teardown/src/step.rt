@@ -40,32 +40,32 @@ pub fn teardown_step<P: Phased, J: Job, N: Naming>(
     requires ended { hub.old.hub.standing ≡ None }
 
     // The environment's turn is told by the phase, and by whether a ticket is next. Else the step is that of the event that the hub chooses,
-    // and where it chooses none there is nothing to do.
+    // and where it chooses none there is nothing to do. No hook waits, since all hooks are synchronous: the number is 0.
     ensures local { (result ≡ TearStep.LocalTurn) ↔ (is_local_turn (P.phase core.old) (P.has_local core.old) ≡ true) }
-    ensures step { let next = tear_event (P.phase core.old) (P.has_local core.old) hub.old.hub in
+    ensures step { let next = tear_event (P.phase core.old) (P.has_local core.old) 0 hub.old.hub in
         IfSome next (λ event. IsStepOf event result) }
     ensures nothing { let local = is_local_turn (P.phase core.old) (P.has_local core.old) in
-        (result ≡ TearStep.Nothing) ↔ ((local ≡ false) × (hub_choice hub.old.hub ≡ None)) }
+        (result ≡ TearStep.Nothing) ↔ ((local ≡ false) × (hub_choice hub.old.hub 0 ≡ None)) }
     ensures unspent { IfBegins result (λ due job. option_map J.spec job ≡ unspent_job hub.old.hub.pool due) }
 
     // The event adds its entry to the history; where there is none the hub is as before.
-    ensures event { let next = tear_event (P.phase core.old) (P.has_local core.old) hub.old.hub in
+    ensures event { let next = tear_event (P.phase core.old) (P.has_local core.old) 0 hub.old.hub in
         IfSome next (λ event. AddsEvent hub.old event hub.new) }
-    ensures hub { tear_event (P.phase core.old) (P.has_local core.old) hub.old.hub ≡ None → hub.new ≡ hub.old }
+    ensures hub { tear_event (P.phase core.old) (P.has_local core.old) 0 hub.old.hub ≡ None → hub.new ≡ hub.old }
 
     // The core takes it in, at the history's length. Where a frame begins, or there is no event, it is as before.
-    ensures drained { let next = tear_event (P.phase core.old) (P.has_local core.old) hub.old.hub in
+    ensures drained { let next = tear_event (P.phase core.old) (P.has_local core.old) 0 hub.old.hub in
         next ≡ Some Drains → P.advances core.old Phase.Drain (length hub.new.history) core.new }
-    ensures finals { let next = tear_event (P.phase core.old) (P.has_local core.old) hub.old.hub in
+    ensures finals { let next = tear_event (P.phase core.old) (P.has_local core.old) 0 hub.old.hub in
         next ≡ Some FinalsCome → P.advances core.old Phase.Finals (length hub.new.history) core.new }
-    ensures closed { let next = tear_event (P.phase core.old) (P.has_local core.old) hub.old.hub in
+    ensures closed { let next = tear_event (P.phase core.old) (P.has_local core.old) 0 hub.old.hub in
         (n : ℕ) → next ≡ Some (Moves (Closes n)) → P.moves core.old (length hub.new.history) core.new }
-    ensures finished { let next = tear_event (P.phase core.old) (P.has_local core.old) hub.old.hub in
+    ensures finished { let next = tear_event (P.phase core.old) (P.has_local core.old) 0 hub.old.hub in
         (n : ℕ) → next ≡ Some (Moves (Finishes n)) → P.finishes core.old (record { 0 = n }) (length hub.new.history) core.new }
     ensures core { result ≢ TearStep.Moved → core.new ≡ core.old }
 
     // The phase is still the one that the hub has come to, and no frame of the environment's own stands.
-    ensures phase { let next = tear_event (P.phase core.old) (P.has_local core.old) hub.old.hub in
+    ensures phase { let next = tear_event (P.phase core.old) (P.has_local core.old) 0 hub.old.hub in
         P.phase core.new ≡ phase_after next (P.phase core.old) }
     ensures shown { IsStageOf (P.phase core.new) hub.new.hub.stage }
     ensures alone { P.stands core.new ≡ false }

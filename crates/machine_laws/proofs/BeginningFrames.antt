@@ -22,7 +22,7 @@ use Rattle.napi_types.specs.environment.Environment.{Environment}
 use Rattle.napi_types.specs.hub.Hub.{Stage, Going, Drained}
 use Rattle.napi_types.specs.hub.HubMoves.{HubMove, Delivers, Closes, Finishes, hub_move}
 use Rattle.napi_types.specs.hub.HubEvents.{begin_step, delivery_entry}
-use Rattle.napi_types.specs.runs.Choice.{local_choice, local_choice_in, hub_choice}
+use Rattle.napi_types.specs.runs.Choice.{local_choice, local_choice_in, hub_choice, waiting_hooks}
 use Rattle.napi_types.specs.runs.Loop.{Event, Tickets, Moves, Goes, EndsLoop, Drains, FinalsCome}
 use Rattle.napi_types.specs.runs.Machine.{Machine}
 use Rattle.napi_types.specs.runs.Step.{Step, ticket_step, move_step, event_step, chosen, step}
@@ -50,7 +50,8 @@ pub lowest-first : LowestDueTicketComesFirst
 lowest-first m n a x alone begins lowest who next =
     let due : IsUnder (PassesTest is_due) m.env.book n = lowest-due m.env.book n lowest in
     let s : step m a x ≡ ticket_step m n (Some due.registration) =
-    chosen-next m a x who alone ∙ ap (chosen m) (lowest-chosen m.env m.env.phase n (hub_choice m.hub) begins lowest) ∙ ap (ticket_step m n) due.there in
+    chosen-next m a x who alone ∙ ap (chosen m) (lowest-chosen m.env m.env.phase n (hub_choice m.hub (waiting_hooks m.env)) begins lowest)
+    ∙ ap (ticket_step m n) due.there in
     record { registration = due.registration; there = due.there; due = due.holds; entry = next.0 ∙ ap (λ (t : Step). t.entry) s }
 
 -- .. and in the phase of the hooks the last of them
@@ -67,7 +68,7 @@ of-hook m h x (Some r) here there is may =
 pub hook-first : LastHookComesFirst
 hook-first m h a x alone here last who next =
     let s : step m a x ≡ ticket_step m h.ticket (registration_at m.env.book h.ticket) =
-    chosen-next m a x who alone ∙ ap (chosen m) (hook-chosen m.env h (hub_choice m.hub) here last) in
+    chosen-next m a x who alone ∙ ap (chosen m) (hook-chosen m.env h (hub_choice m.hub (waiting_hooks m.env)) here last) in
     of-hook m h x (registration_at m.env.book h.ticket) here refl (next.0 ∙ ap (λ (t : Step). t.entry) s) (subst (λ (t : Step). IsTrue t.may) s next.1)
 
 -- WHERE ONE BEGINS
@@ -151,8 +152,8 @@ move-begins m (Closes n) d x alone none moment next is may begins =
 move-begins m (Finishes n) d x alone none moment next is may begins =
     absurd (none-begins x (what.Host host.FinishTsfn) d (ap (λ (y : Entry). y.what) is ∙ event-what m (Moves (Finishes n)) may) refl begins)
 
-hub-begins : (m : Machine) (s : Stage) (v : Event) (d : Duty) (x : Entry) → m.hub.stage ≡ s → m.env.frames ≡ [] → local_choice m.env ≡ None → HubChoice m.hub s v
-    → x ≡ (event_step m v).entry → IsTrue (event_step m v).may → Begins x d → BeginsSo m d x
+hub-begins : (m : Machine) (s : Stage) (v : Event) (d : Duty) (x : Entry) → m.hub.stage ≡ s → m.env.frames ≡ [] → local_choice m.env ≡ None
+    → HubChoice m.hub (waiting_hooks m.env) s v → x ≡ (event_step m v).entry → IsTrue (event_step m v).may → Begins x d → BeginsSo m d x
 hub-begins m _ _ d x here alone none goes is may begins =
     absurd (none-begins x (what.Host host.Go) d (ap (λ (y : Entry). y.what) is ∙ event-what m Goes may) refl begins)
 hub-begins m _ _ d x here alone none (idles unmoved idle) is may begins =
@@ -169,9 +170,10 @@ hub-begins m _ _ d x here alone none (moves_at_end move next) is may begins = mo
 event-begins : (m : Machine) (d : Duty) (x : Entry) → Happens m x → Begins x d → BeginsSo m d x
 event-begins m d x h begins = by (chosen-by m h.event h.next)
   where
-    by : (local_choice m.env ≡ Some h.event) ⊎ ((local_choice m.env ≡ None) × (hub_choice m.hub ≡ Some h.event)) → BeginsSo m d x
+    by : (local_choice m.env ≡ Some h.event) ⊎ ((local_choice m.env ≡ None) × (hub_choice m.hub (waiting_hooks m.env) ≡ Some h.event)) → BeginsSo m d x
     by (inl mine) = own-begins m m.env.phase h.event d x refl h.alone (own-choice m.env m.env.phase h.event mine) h.entry h.may begins
-    by (inr its) = hub-begins m m.hub.stage h.event d x refl h.alone its.0 (hub-choice m.hub m.hub.stage h.event its.1) h.entry h.may begins
+    by (inr its) =
+        hub-begins m m.hub.stage h.event d x refl h.alone its.0 (hub-choice m.hub (waiting_hooks m.env) m.hub.stage h.event its.1) h.entry h.may begins
 
 form-begins : (m : Machine) (t : Step) (d : Duty) (x : Entry) → Form m t → x ≡ t.entry → IsTrue t.may → Begins x d → BeginsSo m d x
 form-begins m t d x (form.calls f fs stands c o alone) is may begins = absurd (asked-begins m.env c (number_of o) d (subst (λ y. Begins y d) is begins))

@@ -27,7 +27,7 @@ use Rattle.napi_types.specs.environment.Environment.{Environment}
 use Rattle.napi_types.specs.hub.Hub.{IsStageOf, Hub, Stage, Before, Looped, Drained}
 use Rattle.napi_types.specs.hub.HubEvents.{begin_step, delivery_entry}
 use Rattle.napi_types.specs.hub.HubMoves.{Delivers, Closes, Finishes, hub_move, is_spent}
-use Rattle.napi_types.specs.runs.Choice.{local_choice, hub_choice, choice}
+use Rattle.napi_types.specs.runs.Choice.{local_choice, hub_choice, choice, waiting_hooks}
 use Rattle.napi_types.specs.runs.Loop.{Event, Opens, Inits, Tickets, Moves, Goes, EndsLoop, Drains, FinalsCome, IsGone}
 use Rattle.napi_types.specs.runs.Machine.{Machine}
 use Rattle.napi_types.specs.runs.Run.{IsNext, after}
@@ -163,9 +163,11 @@ own-next m h _ _ x _ comes n = n
 pub own-first : OwnEventsComeFirst
 own-first m v a x alone chosen_own who next =
     let P : Step → Type 0 = λ t. (x ≡ t.entry) × IsTrue t.may in
-    let here : step m a x ≡ event_step m v = chosen-next m a x who alone ∙ ap (λ c. chosen m (option_or c (hub_choice m.hub))) chosen_own in
+    let here : step m a x ≡ event_step m v =
+    chosen-next m a x who alone ∙ ap (λ c. chosen m (option_or c (hub_choice m.hub (waiting_hooks m.env)))) chosen_own in
     let there : (h : Hub) → step (record m { hub = h }) a x ≡ event_step (record m { hub = h }) v =
-    λ h. chosen-next (record m { hub = h }) a x who alone ∙ ap (λ c. chosen (record m { hub = h }) (option_or c (hub_choice h))) chosen_own in
+    λ h. chosen-next (record m { hub = h }) a x who alone
+    ∙ ap (λ c. chosen (record m { hub = h }) (option_or c (hub_choice h (waiting_hooks m.env)))) chosen_own in
     record {
       entry = (subst P here next).0;
       anyhow = λ h comes. subst P (sym (there h)) (own-next m h m.env.phase v x (own-choice m.env m.env.phase v chosen_own) comes (subst P here next));
@@ -175,7 +177,7 @@ own-first m v a x alone chosen_own who next =
 pub hub-last : HubEventsComeLast
 hub-last m a x alone none who next =
     let h : Happens m x = happens-alone m a x alone who next in
-    record { event = h.event; next = sym (ap (λ c. option_or c (hub_choice m.hub)) none) ∙ h.next; entry = h.entry }
+    record { event = h.event; next = sym (ap (λ c. option_or c (hub_choice m.hub (waiting_hooks m.env))) none) ∙ h.next; entry = h.entry }
 
 -- GO
 -- it is the hub's first event, and no event that the environment decides alone
@@ -195,12 +197,12 @@ chosen-go m alone is = by (chosen-by m Goes is)
     own : (p : Phase) → OwnChoice m.env p Goes → ⊥
     own p o = elim o [ ]
 
-    first : (s : Stage) → HubChoice m.hub s Goes → s ≡ Before
+    first : (s : Stage) → HubChoice m.hub (waiting_hooks m.env) s Goes → s ≡ Before
     first _ goes = refl
 
-    by : (local_choice m.env ≡ Some Goes) ⊎ ((local_choice m.env ≡ None) × (hub_choice m.hub ≡ Some Goes)) → GoesFrom m
+    by : (local_choice m.env ≡ Some Goes) ⊎ ((local_choice m.env ≡ None) × (hub_choice m.hub (waiting_hooks m.env) ≡ Some Goes)) → GoesFrom m
     by (inl mine) = absurd (own m.env.phase (own-choice m.env m.env.phase Goes mine))
-    by (inr hubs) = record { alone = alone; none = hubs.0; stage = first m.hub.stage (hub-choice m.hub m.hub.stage Goes hubs.1) }
+    by (inr hubs) = record { alone = alone; none = hubs.0; stage = first m.hub.stage (hub-choice m.hub (waiting_hooks m.env) m.hub.stage Goes hubs.1) }
 
 go-from : (m : Machine) (a : Ask) (x : Entry) → IsNext m a x → x.what ≡ what.Host host.Go → GoesFrom m
 go-from m a x next is =
@@ -230,12 +232,13 @@ chosen-gone m is = by (chosen-by m IsGone is)
     last : (p : Phase) → OwnChoice m.env p IsGone → p ≡ phase.Finals
     last _ (ends none) = refl
 
-    hubs : (s : Stage) → HubChoice m.hub s IsGone → ⊥
+    hubs : (s : Stage) → HubChoice m.hub (waiting_hooks m.env) s IsGone → ⊥
     hubs s o = elim o [ ]
 
-    by : (local_choice m.env ≡ Some IsGone) ⊎ ((local_choice m.env ≡ None) × (hub_choice m.hub ≡ Some IsGone)) → m.env.phase ≡ phase.Finals
+    by : (local_choice m.env ≡ Some IsGone) ⊎ ((local_choice m.env ≡ None) × (hub_choice m.hub (waiting_hooks m.env) ≡ Some IsGone))
+        → m.env.phase ≡ phase.Finals
     by (inl mine) = last m.env.phase (own-choice m.env m.env.phase IsGone mine)
-    by (inr its) = absurd (hubs m.hub.stage (hub-choice m.hub m.hub.stage IsGone its.1))
+    by (inr its) = absurd (hubs m.hub.stage (hub-choice m.hub (waiting_hooks m.env) m.hub.stage IsGone its.1))
 
 pub gone-last : GoneComesAfterFinals
 gone-last m a x next is =
@@ -273,12 +276,12 @@ chosen-drain m is = by (chosen-by m Drains is)
     own : (p : Phase) → OwnChoice m.env p Drains → ⊥
     own p o = elim o [ ]
 
-    looped : (s : Stage) → HubChoice m.hub s Drains → s ≡ Looped
+    looped : (s : Stage) → HubChoice m.hub (waiting_hooks m.env) s Drains → s ≡ Looped
     looped _ drains = refl
 
-    by : (local_choice m.env ≡ Some Drains) ⊎ ((local_choice m.env ≡ None) × (hub_choice m.hub ≡ Some Drains)) → DrainsFrom m
+    by : (local_choice m.env ≡ Some Drains) ⊎ ((local_choice m.env ≡ None) × (hub_choice m.hub (waiting_hooks m.env) ≡ Some Drains)) → DrainsFrom m
     by (inl mine) = absurd (own m.env.phase (own-choice m.env m.env.phase Drains mine))
-    by (inr hubs) = record { none = hubs.0; stage = looped m.hub.stage (hub-choice m.hub m.hub.stage Drains hubs.1) }
+    by (inr hubs) = record { none = hubs.0; stage = looped m.hub.stage (hub-choice m.hub (waiting_hooks m.env) m.hub.stage Drains hubs.1) }
 
 looped-hooks : (p : Phase) → IsStageOf p Looped → p ≡ phase.Hooks
 looped-hooks phase.Hooks h = refl
@@ -313,12 +316,12 @@ chosen-finals m is = by (chosen-by m FinalsCome is)
     own : (p : Phase) → OwnChoice m.env p FinalsCome → ⊥
     own p o = elim o [ ]
 
-    last : (s : Stage) → m.hub.stage ≡ s → HubChoice m.hub s FinalsCome → FinalsFrom m
+    last : (s : Stage) → m.hub.stage ≡ s → HubChoice m.hub (waiting_hooks m.env) s FinalsCome → FinalsFrom m
     last _ here (finals unmoved spent) = record { stage = here; unmoved = unmoved; spent = spent }
 
-    by : (local_choice m.env ≡ Some FinalsCome) ⊎ ((local_choice m.env ≡ None) × (hub_choice m.hub ≡ Some FinalsCome)) → FinalsFrom m
+    by : (local_choice m.env ≡ Some FinalsCome) ⊎ ((local_choice m.env ≡ None) × (hub_choice m.hub (waiting_hooks m.env) ≡ Some FinalsCome)) → FinalsFrom m
     by (inl mine) = absurd (own m.env.phase (own-choice m.env m.env.phase FinalsCome mine))
-    by (inr hubs) = last m.hub.stage refl (hub-choice m.hub m.hub.stage FinalsCome hubs.1)
+    by (inr hubs) = last m.hub.stage refl (hub-choice m.hub (waiting_hooks m.env) m.hub.stage FinalsCome hubs.1)
 
 drained-phase : (p : Phase) → IsStageOf p Drained → p ≡ phase.Drain
 drained-phase phase.Drain h = refl

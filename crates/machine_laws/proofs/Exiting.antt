@@ -29,7 +29,7 @@ use Rattle.napi_types.specs.hub.Hub.{IsStageOf, Stage, Going, Drained}
 use Rattle.napi_types.specs.hub.HubMoves.{HubMove, Delivers, Closes, Finishes, hub_move, is_idle, is_quiet}
 use Rattle.napi_types.specs.hub.HubEvents.{delivery_entry}
 use Rattle.napi_types.specs.hub.HubSteps.{hub_step}
-use Rattle.napi_types.specs.runs.Choice.{choice}
+use Rattle.napi_types.specs.runs.Choice.{choice, waiting_hooks}
 use Rattle.napi_types.specs.runs.Loop.{Event, Moves, EndsLoop}
 use Rattle.napi_types.specs.runs.Machine.{Machine}
 use Rattle.napi_types.specs.runs.Run.{IsRunBy, after, final}
@@ -173,8 +173,8 @@ own-reason : (m : Machine) (p : Phase) (reason : LoopEnd) → OwnChoice m.env p 
 own-reason m _ _ (exits asked) = by-exit m m.env.exit_asked asked
 
 -- where the hub ends the loop the environment is in it, and decided nothing
-hub-reason : (m : Machine) (p : Phase) (s : Stage) (reason : LoopEnd) → IsStageOf p s → HubChoice m.hub s (EndsLoop reason) → NoChoice m.env p
-    → IsReason m m.env.exit_asked reason
+hub-reason : (m : Machine) (p : Phase) (s : Stage) (reason : LoopEnd) → IsStageOf p s
+    → HubChoice m.hub (waiting_hooks m.env) s (EndsLoop reason) → NoChoice m.env p → IsReason m m.env.exit_asked reason
 hub-reason m _ _ _ shown (idles unmoved idle) (waits unasked lowest) = record {
   is = sym (ap (λ b. reason_of b (is_idle m.hub)) unasked ∙ ap (reason_of false) idle);
   none_due = λ z. lowest;
@@ -192,7 +192,7 @@ hub-reason m _ _ _ shown _ _ = cc
 chosen-reason : (m : Machine) (reason : LoopEnd) → InPhase m → choice m ≡ Some (EndsLoop reason) → IsReason m m.env.exit_asked reason
 chosen-reason m reason far is = by (chosen-in-phase m (EndsLoop reason) is)
   where
-    by : OwnChoice m.env m.env.phase (EndsLoop reason) ⊎ NoChoice m.env m.env.phase × HubChoice m.hub m.hub.stage (EndsLoop reason)
+    by : OwnChoice m.env m.env.phase (EndsLoop reason) ⊎ NoChoice m.env m.env.phase × HubChoice m.hub (waiting_hooks m.env) m.hub.stage (EndsLoop reason)
         → IsReason m m.env.exit_asked reason
     by (inl mine) = own-reason m m.env.phase reason mine
     by (inr its) = hub-reason m m.env.phase m.hub.stage reason far its.1 its.0

@@ -26,7 +26,7 @@ use Rattle.napi_types.specs.hub.HubEvents.{delivery_entry}
 use Rattle.napi_types.specs.hub.HubMoves.{Delivers, hub_move, is_spent}
 use Rattle.napi_types.specs.hub.ThreadSteps.{is_thread_there}
 use Rattle.napi_types.specs.hub.WorkerSteps.{is_worker_there}
-use Rattle.napi_types.specs.runs.Choice.{local_choice, hub_choice}
+use Rattle.napi_types.specs.runs.Choice.{local_choice, hub_choice, waiting_hooks}
 use Rattle.napi_types.specs.runs.Loop.{Event, EndsLoop}
 use Rattle.napi_types.specs.runs.Machine.{Machine}
 use Rattle.napi_types.specs.runs.Run.{after, IsNext, IsRunBy}
@@ -105,7 +105,7 @@ OwnEventsComeFirst = (m : Machine) (own : Event) (a : Ask) (x : Entry) → m.env
 -- the hub has a next event, and the entry is that event's
 pub record IsOfHub (m : Machine) (x : Entry) : Type 0 where
   pub event : Event
-  pub next : hub_choice m.hub ≡ Some event
+  pub next : hub_choice m.hub (waiting_hooks m.env) ≡ Some event
   pub entry : x ≡ (event_step m event).entry
 
 -- where the environment does not decide alone, the hub's event comes next of it; so nothing comes where the hub has none either

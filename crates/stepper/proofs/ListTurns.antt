@@ -21,7 +21,7 @@ use Rattle.napi_types.specs.hub.Actors.{thread_calls, left_along, Over}
 use Rattle.napi_types.specs.hub.HistoryRoom.{history_room}
 use Rattle.napi_types.specs.hub.Hub.{Hub}
 use Rattle.napi_types.specs.hub.HubSteps.{hub_along}
-use Rattle.napi_types.specs.runs.Choice.{local_choice, hub_choice, choice}
+use Rattle.napi_types.specs.runs.Choice.{local_choice, hub_choice, choice, waiting_hooks}
 use Rattle.napi_types.specs.runs.Loop.{Event}
 use Rattle.napi_types.specs.runs.Machine.{Machine}
 use Rattle.napi_types.specs.runs.Plan.{frames_ask}
@@ -135,8 +135,8 @@ module _ (n : Numbers) (plans : List Plan) (old new : RunAtHub) (s : Setting) (f
   lists-turn (inr (inr (inr (inl m)))) =
       let e : Environment = old.run.core.env in
       let needs : turn_at e.frames e ≡ turn.NeedsHub = unowed-turn (owes_hub old.run) (turn_at e.frames e) m.unowed m.needs in
-      let none : option_or (local_choice e) (hub_choice (hub_along (opening_of s).hub old.hub.history)) ≡ None =
-      ap (λ (h : Hub). option_or (local_choice e) (hub_choice h)) hub ∙ m.none in
+      let none : option_or (local_choice e) (hub_choice (hub_along (opening_of s).hub old.hub.history) (waiting_hooks e)) ≡ None =
+      ap (λ (h : Hub). option_or (local_choice e) (hub_choice h (waiting_hooks e))) hub ∙ m.none in
       inr (inl (
         at-rest s old.run old.hub.history old.addons firsts (is_some old.run.ending) here (inr (needs-none e.frames e needs, none)),
         both-same new.run.core.journal old.run.core.journal new.hub.history old.hub.history (is_some new.run.ending) (is_some old.run.ending)

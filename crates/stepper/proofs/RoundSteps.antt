@@ -14,7 +14,7 @@ use Rattle.napi_types.specs.scripts.Plans.{Plan}
 use Rattle.napi_types.specs.environment.Environment.{Environment}
 use Rattle.napi_types.specs.hub.Hub.{Stage, Before, Going, Looped, Drained, Final, IsStageOf}
 use Rattle.napi_types.specs.hub.Waits.{SomebodyGoesOn}
-use Rattle.napi_types.specs.runs.Choice.{local_choice, local_choice_in, hub_choice}
+use Rattle.napi_types.specs.runs.Choice.{local_choice, local_choice_in, hub_choice, waiting_hooks}
 use Rattle.napi_types.specs.runs.Loop.{Event, IsGone, ticket_choice}
 use Rattle.napi_types.proofs.all_runs.Stillness.{somebody-always-goes-on}
 use Rattle.shared_hub.specs.HubStates.{HubSeen}
@@ -67,12 +67,12 @@ no-frame (f ∷ fs) e needs = cc
 -- so the hub has an event, or somebody goes on
 idle-goes-on : (n : Numbers) (r : Run) (s : HubSeen) → IsLedHub n s → FitsHub r s → needs_hub r → owes_hub r ≡ false → hub_event r.core.env s.hub ≡ None → SomebodyGoesOn s.hub
 idle-goes-on n r s led fits needs unowed none =
-    let choice : local_choice r.core.env ≡ None = no-local (local_choice r.core.env) (hub_choice s.hub) none in
+    let choice : local_choice r.core.env ≡ None = no-local (local_choice r.core.env) (hub_choice s.hub (waiting_hooks r.core.env)) none in
     let event : event_turn (local_choice r.core.env) r.core.env.phase ≡ turn.NeedsHub =
     no-frame r.core.env.frames r.core.env (unowed-turn (owes_hub r) (turn_at r.core.env.frames r.core.env) unowed needs) in
-    somebody-always-goes-on n.limits.history n.threads n.workers s.history s.hub led.led
+    somebody-always-goes-on n.limits.history n.threads n.workers s.history s.hub (waiting_hooks r.core.env) led.led
     (early-phase r.core.env r.core.env.phase s.hub.stage fits.stage choice (subst (λ o. event_turn o r.core.env.phase ≡ turn.NeedsHub) choice event))
-    (no-hub (local_choice r.core.env) (hub_choice s.hub) none)
+    (no-hub (local_choice r.core.env) (hub_choice s.hub (waiting_hooks r.core.env)) none)
 
 -- SO MANY ROUNDS
 pub rounds-more : (n : Numbers) (k : ℕ) → rounds_of n k ++ round_of n ≡ rounds_of n (suc k)

@@ -14,7 +14,7 @@ use Rattle.napi_types.specs.environment.Hooked.{is_late, IsHooked}
 use Rattle.napi_types.specs.hub.Hub.{Stage, Before, Going, Looped, Drained, Final, stage_after, IsStageOf}
 use Rattle.napi_types.specs.hub.HubEvents.{begin_step, close_step, finish_step, delivery_entry, is_moving}
 use Rattle.napi_types.specs.hub.HubMoves.{HubMove, Delivers, Closes, Finishes, hub_move, idle_reason, is_idle, is_quiet, is_spent}
-use Rattle.napi_types.specs.runs.Choice.{choice, local_choice_in, hub_choice, hub_choice_at, finals_choice}
+use Rattle.napi_types.specs.runs.Choice.{choice, local_choice_in, hub_choice, hub_choice_at, finals_choice, waiting_hooks}
 use Rattle.napi_types.specs.runs.Loop.{Event, Opens, Inits, Tickets, Moves, Goes, EndsLoop, FinalsCome, IsGone}
 use Rattle.napi_types.specs.runs.Machine.{Machine}
 use Rattle.napi_types.specs.runs.Setting.{final_of}
@@ -75,13 +75,13 @@ init-may m true true far alone = refl
 init-may m true false far alone = great m host.Go Before far alone refl
 
 live-may : (m : Machine) (exit : Bool) (o : Option ℕ) → lowest_due m.env.book ≡ o → m.env.phase ≡ phase.Live → m.hub.stage ≡ Going → m.hub.standing ≡ None
-    → May m (option_or (cond exit (Some (EndsLoop loop_end.Exit)) (option_map Tickets o)) (hub_choice_at m.hub Going))
+    → May m (option_or (cond exit (Some (EndsLoop loop_end.Exit)) (option_map Tickets o)) (hub_choice_at m.hub (waiting_hooks m.env) Going))
 live-may m true o lowest here far alone = great m host.LoopEnd Going far alone refl
 live-may m false (Some n) lowest here far alone = due-may phase.Live m n here (λ s. refl) lowest
 live-may m false None lowest here far alone = going-may m (hub_move m.hub) refl far alone
 
 hooks-may : (m : Machine) (o : Option Hook) → last_hook m.env.hooks ≡ o → IsHooked m.env → m.env.phase ≡ phase.Hooks → m.hub.stage ≡ Looped → m.hub.standing ≡ None
-    → May m (option_or (option_map Tickets (option_map (λ (h : Hook). h.ticket) o)) (hub_choice_at m.hub Looped))
+    → May m (option_or (option_map Tickets (option_map (λ (h : Hook). h.ticket) o)) (hub_choice_at m.hub (waiting_hooks m.env) Looped))
 hooks-may m (Some h) last hooked here far alone =
     ticket-may phase.Hooks m h.ticket here (hook-registered m.env h hooked (ap is_late here) last)
 hooks-may m None last hooked here far alone = great m host.Drain Looped far alone refl
@@ -95,17 +95,17 @@ drained-may m None next far alone = by (is_spent m.hub)
     by false = tt
 
 finals-may : (m : Machine) (o : Option ℕ) → lowest_due m.env.book ≡ o → m.env.phase ≡ phase.Finals
-    → May m (option_or (option_or (option_map Tickets o) (Some IsGone)) (hub_choice_at m.hub Final))
+    → May m (option_or (option_or (option_map Tickets o) (Some IsGone)) (hub_choice_at m.hub (waiting_hooks m.env) Final))
 finals-may m (Some n) lowest here = due-may phase.Finals m n here (λ s. refl) lowest
 finals-may m None lowest here = refl
 
 -- by the stage to which the hub has come
-at-stage : (m : Machine) (s : Stage) (own : Option Event) → m.hub.stage ≡ s → May m (option_or own (hub_choice_at m.hub s))
-    → May m (option_or own (hub_choice m.hub))
-at-stage m s own far may = subst (λ t. May m (option_or own (hub_choice_at m.hub t))) (sym far) may
+at-stage : (m : Machine) (s : Stage) (own : Option Event) → m.hub.stage ≡ s → May m (option_or own (hub_choice_at m.hub (waiting_hooks m.env) s))
+    → May m (option_or own (hub_choice m.hub (waiting_hooks m.env)))
+at-stage m s own far may = subst (λ t. May m (option_or own (hub_choice_at m.hub (waiting_hooks m.env) t))) (sym far) may
 
 phase-may : (m : Machine) (p : Phase) → m.env.phase ≡ p → IsStageOf p m.hub.stage → IsHooked m.env → m.hub.standing ≡ None
-    → May m (option_or (local_choice_in m.env p) (hub_choice m.hub))
+    → May m (option_or (local_choice_in m.env p) (hub_choice m.hub (waiting_hooks m.env)))
 phase-may m phase.Init here far hooked alone =
     at-stage m Before (local_choice_in m.env phase.Init) far (init-may m m.env.opened (nat_lt m.env.inits m.env.addons) far alone)
 phase-may m phase.Live here far hooked alone =

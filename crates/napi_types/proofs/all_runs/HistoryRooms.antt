@@ -32,7 +32,7 @@ use Rattle.napi_types.specs.hub.HubSteps.{hub_step, hub_step_of}
 use Rattle.napi_types.specs.hub.ThreadSteps.{thread_step}
 use Rattle.napi_types.specs.hub.WorkerSteps.{worker_step}
 use Rattle.napi_types.specs.runs.CallRoom.{room_of}
-use Rattle.napi_types.specs.runs.Choice.{local_choice, hub_choice, choice}
+use Rattle.napi_types.specs.runs.Choice.{local_choice, hub_choice, choice, waiting_hooks}
 use Rattle.napi_types.specs.runs.Loop.{Event, Inits, Opens, Tickets, Moves, Goes, EndsLoop, Drains, FinalsCome, IsGone}
 use Rattle.napi_types.specs.runs.Machine.{Machine}
 use Rattle.napi_types.specs.runs.Run.{IsRunBy, final}
@@ -138,13 +138,13 @@ finals-spent m next = by (chosen-by m FinalsCome next)
     own : (p : Phase) → OwnChoice m.env p FinalsCome → ⊥
     own p c = elim c [ ]
 
-    of-hub : (s : Stage) → HubChoice m.hub s FinalsCome → (hub_move m.hub ≡ None) × (is_spent m.hub ≡ true)
+    of-hub : (s : Stage) → HubChoice m.hub (waiting_hooks m.env) s FinalsCome → (hub_move m.hub ≡ None) × (is_spent m.hub ≡ true)
     of-hub _ (choices.finals none spent) = (none, spent)
 
-    by : (local_choice m.env ≡ Some FinalsCome) ⊎ ((local_choice m.env ≡ None) × (hub_choice m.hub ≡ Some FinalsCome))
+    by : (local_choice m.env ≡ Some FinalsCome) ⊎ ((local_choice m.env ≡ None) × (hub_choice m.hub (waiting_hooks m.env) ≡ Some FinalsCome))
         → (hub_move m.hub ≡ None) × (is_spent m.hub ≡ true)
     by (inl mine) = absurd (own m.env.phase (own-choice m.env m.env.phase FinalsCome mine))
-    by (inr its) = of-hub m.hub.stage (hub-choice m.hub m.hub.stage FinalsCome its.1)
+    by (inr its) = of-hub m.hub.stage (hub-choice m.hub (waiting_hooks m.env) m.hub.stage FinalsCome its.1)
 
 -- EACH STEP OF THE HUB
 ticket-hub : (Enough : Type 0) (l : Limits) (m : Machine) (n : ℕ) (o : Option Registration) → HubRoomy Enough l m → HubRoomy Enough l (ticket_step m n o).after

@@ -31,7 +31,7 @@ use Rattle.napi_types.specs.hub.Hub.{IsStageOf, Stage, Before, Going, Looped, Dr
 use Rattle.napi_types.specs.hub.HubMoves.{HubMove, Delivers, Closes, Finishes, hub_move}
 use Rattle.napi_types.specs.hub.HubSteps.{hub_step}
 use Rattle.napi_types.specs.runs.CallRoom.{room_of}
-use Rattle.napi_types.specs.runs.Choice.{choice}
+use Rattle.napi_types.specs.runs.Choice.{choice, waiting_hooks}
 use Rattle.napi_types.specs.runs.Loop.{EndsLoop, Event}
 use Rattle.napi_types.specs.runs.Machine.{Machine}
 use Rattle.napi_types.specs.runs.Run.{IsRunBy, after, final, IsNext}
@@ -300,7 +300,7 @@ own-room Enough l m _ _ e f (choices.ends lowest) r h =
 
 -- and what the hub does where it decides nothing
 hub-room : (Enough : Type 0) (l : Limits) (m : Machine) (p : Phase) (s : Stage) (v : Event) → m.env.phase ≡ p → m.hub.stage ≡ s → IsStageOf p s
-    → HubChoice m.hub s v → NoChoice m.env p → Roomy Enough l m → Roomy Enough l (event_step m v).after
+    → HubChoice m.hub (waiting_hooks m.env) s v → NoChoice m.env p → Roomy Enough l m → Roomy Enough l (event_step m v).after
 hub-room Enough l m _ _ _ e far shown choices.goes (choices.begun o i) r =
     passed-room Enough l m host.Go phase.Live out.Nothing (stage-moved m host.Go Before far) (rw e refl) (λ q. cc) o i r
 hub-room Enough l m _ _ _ e far shown (choices.idles none idle) (choices.waits unasked lowest) r = loop-ended-room Enough l m loop_end.Idle e r
@@ -321,7 +321,8 @@ event-room : (Enough : Type 0) (l : Limits) (m : Machine) (v : Event) → m.env.
     → Roomy Enough l (event_step m v).after
 event-room Enough l m v alone next r h = by (chosen-in-phase m v next)
   where
-    by : OwnChoice m.env m.env.phase v ⊎ NoChoice m.env m.env.phase × HubChoice m.hub m.hub.stage v → Roomy Enough l (event_step m v).after
+    by : OwnChoice m.env m.env.phase v ⊎ NoChoice m.env m.env.phase × HubChoice m.hub (waiting_hooks m.env) m.hub.stage v
+        → Roomy Enough l (event_step m v).after
     by (inl mine) = own-room Enough l m m.env.phase v refl alone mine r h
     by (inr its) = hub-room Enough l m m.env.phase m.hub.stage v refl refl r.stage its.1 its.0 r
 

@@ -17,7 +17,7 @@ use Rattle.napi_types.specs.hub.HubMoves.{HubMove, hub_move, is_idle, is_quiet, 
 use Rattle.napi_types.specs.hub.HubStep.{actor_told}
 use Rattle.napi_types.specs.hub.Waits.{ThreadGoesOn, WorkerGoesOn, SomebodyGoesOn}
 use Rattle.napi_types.specs.hub.WorkerSteps.{is_worker_there, start_step, work_end_step}
-use Rattle.napi_types.specs.runs.Choice.{local_choice, local_choice_in, hub_choice, hub_choice_at}
+use Rattle.napi_types.specs.runs.Choice.{local_choice, local_choice_in, hub_choice, hub_choice_at, waiting_hooks}
 use Rattle.napi_types.specs.runs.Loop.{Event, ticket_choice, Moves, EndsLoop, FinalsCome, IsGone}
 use Rattle.napi_types.specs.runs.Machine.{Machine}
 use Rattle.napi_types.specs.runs.Setting.{opening_of, final_of}
@@ -47,9 +47,9 @@ not-spent (Some move) spent none = cc
 not-spent None true none = cc
 not-spent None false none = refl
 
-module _ (h : Hub) (shut : IsShut h) (staffed : IsStaffed h) (serving : (w : ℕ) → IsServing w h) where
+module _ (h : Hub) (waiting : ℕ) (shut : IsShut h) (staffed : IsStaffed h) (serving : (w : ℕ) → IsServing w h) where
   -- by how far the hub is
-  stage-goes : (s : Stage) → h.stage ≡ s → s ≢ Final → hub_choice_at h s ≡ None → SomebodyGoesOn h
+  stage-goes : (s : Stage) → h.stage ≡ s → s ≢ Final → hub_choice_at h waiting s ≡ None → SomebodyGoesOn h
   stage-goes Before far never none = cc
   stage-goes Going far never none =
       loop-goes-on h (unmoved (hub_move h) _ none) (rw far refl) (shut ∙ ap is_past_drain far) staffed serving
@@ -59,13 +59,13 @@ module _ (h : Hub) (shut : IsShut h) (staffed : IsStaffed h) (serving : (w : ℕ
       drained-goes-on h (unmoved (hub_move h) _ none) (rw far refl) (shut ∙ ap is_past_drain far) serving (not-spent (hub_move h) (is_spent h) none)
   stage-goes Final far never none = absurd (never refl)
 
-  somebody-goes : h.stage ≢ Final → hub_choice h ≡ None → SomebodyGoesOn h
+  somebody-goes : h.stage ≢ Final → hub_choice h waiting ≡ None → SomebodyGoesOn h
   somebody-goes never none = stage-goes h.stage refl never none
 
 pub somebody-always-goes-on : SomebodyAlwaysGoesOn
-somebody-always-goes-on limit threads workers history h led never none =
+somebody-always-goes-on limit threads workers history h waiting led never none =
     let shut : IsShut h = pools-close-at-the-drain limit threads workers history h led in
-    somebody-goes h shut (λ opened. workers-end-after-the-drain limit threads workers history h led (sym shut ∙ opened))
+    somebody-goes h waiting shut (λ opened. workers-end-after-the-drain limit threads workers history h led (sym shut ∙ opened))
     (λ w. executing-workers-are-there limit threads workers w history h led) never none
 
 -- AN ENTRY THAT MAY COME
@@ -133,11 +133,11 @@ not-final e phase.Gone s later never none far = absurd (never refl)
 
 pub runs-never-stand-still : RunsNeverStandStill
 runs-never-stand-still s bs xs run never alone none =
-    let on : SomebodyGoesOn m.hub = somebody-goes m.hub (hub-kept IsShut step-shut (opening_of s) bs xs run refl)
+    let on : SomebodyGoesOn m.hub = somebody-goes m.hub (waiting_hooks m.env) (hub-kept IsShut step-shut (opening_of s) bs xs run refl)
     (hub-kept IsStaffed step-staffed (opening_of s) bs xs run (λ opened. refl))
     (λ w. hub-kept (IsServing w) (step-serves w) (opening_of s) bs xs run (λ runs. cc))
-    (not-final m.env m.env.phase m.hub.stage (hub_choice m.hub) never none (orderly-run s bs xs run).stage)
-    (none-last (local_choice m.env) (hub_choice m.hub) none) in
+    (not-final m.env m.env.phase m.hub.stage (hub_choice m.hub (waiting_hooks m.env)) never none (orderly-run s bs xs run).stage)
+    (none-last (local_choice m.env) (hub_choice m.hub (waiting_hooks m.env)) none) in
     (on, enters m on)
   where
     m : Machine

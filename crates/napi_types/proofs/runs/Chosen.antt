@@ -10,7 +10,7 @@ use Rattle.napi_types.specs.parts.Hooks.{Hook, last_hook}
 use Rattle.napi_types.specs.environment.Environment.{Environment}
 use Rattle.napi_types.specs.hub.Hub.{Hub, Stage, Before, Going, Looped, Drained, Final}
 use Rattle.napi_types.specs.hub.HubMoves.{HubMove, hub_move, is_idle, is_quiet, idle_reason, is_spent}
-use Rattle.napi_types.specs.runs.Choice.{local_choice, local_choice_in, hub_choice, hub_choice_at, choice, finals_choice}
+use Rattle.napi_types.specs.runs.Choice.{local_choice, local_choice_in, hub_choice, hub_choice_at, choice, finals_choice, waiting_hooks}
 use Rattle.napi_types.specs.runs.Loop.{Event, Opens, Inits, Tickets, Moves, Goes, EndsLoop, Drains, FinalsCome, IsGone}
 use Rattle.napi_types.specs.runs.Machine.{Machine}
 
@@ -89,60 +89,65 @@ no-choice e phase.Finals is = absurd (finals-none (lowest_due e.book) is)
 no-choice e phase.Gone is = gone
 
 -- THE HUB'S
--- an event of the hub, where it has come so far
-pub data HubChoice (h : Hub) : Stage → Event → Type 0 where
-  goes : HubChoice h Before Goes
-  idles : hub_move h ≡ None → is_idle h ≡ true → HubChoice h Going (EndsLoop loop_end.Idle)
-  quiets : hub_move h ≡ None → is_idle h ≡ false → is_quiet h ≡ true → HubChoice h Going (EndsLoop loop_end.Quiet)
-  drains : HubChoice h Looped Drains
-  finals : hub_move h ≡ None → is_spent h ≡ true → HubChoice h Drained FinalsCome
-  moves_in_loop : (move : HubMove) → hub_move h ≡ Some move → HubChoice h Going (Moves move)
-  moves_at_end : (move : HubMove) → hub_move h ≡ Some move → HubChoice h Drained (Moves move)
+-- an event of the hub, where so many hooks wait and it has come so far
+pub data HubChoice (h : Hub) (waiting : ℕ) : Stage → Event → Type 0 where
+  goes : HubChoice h waiting Before Goes
+  idles : hub_move h ≡ None → is_idle h ≡ true → HubChoice h waiting Going (EndsLoop loop_end.Idle)
+  quiets : hub_move h ≡ None → is_idle h ≡ false → is_quiet h ≡ true → HubChoice h waiting Going (EndsLoop loop_end.Quiet)
+  drains : HubChoice h waiting Looped Drains
+  finals : hub_move h ≡ None → is_spent h ≡ true → HubChoice h waiting Drained FinalsCome
+  moves_in_loop : (move : HubMove) → hub_move h ≡ Some move → HubChoice h waiting Going (Moves move)
+  moves_at_end : (move : HubMove) → hub_move h ≡ Some move → HubChoice h waiting Drained (Moves move)
 
-idle-choice : (h : Hub) (idle quiet : Bool) (v : Event) → hub_move h ≡ None → is_idle h ≡ idle → is_quiet h ≡ quiet
-    → option_map EndsLoop (cond idle (Some loop_end.Idle) (cond quiet (Some loop_end.Quiet) None)) ≡ Some v → HubChoice h Going v
-idle-choice h true quiet v none idle quietly is = let same : EndsLoop loop_end.Idle ≡ v = cc in subst (HubChoice h Going) same (idles none idle)
-idle-choice h false true v none idle quietly is = let same : EndsLoop loop_end.Quiet ≡ v = cc in subst (HubChoice h Going) same (quiets none idle quietly)
-idle-choice h false false v none idle quietly is = cc
+idle-choice : (h : Hub) (waiting : ℕ) (idle quiet : Bool) (v : Event) → hub_move h ≡ None → is_idle h ≡ idle → is_quiet h ≡ quiet
+    → option_map EndsLoop (cond idle (Some loop_end.Idle) (cond quiet (Some loop_end.Quiet) None)) ≡ Some v → HubChoice h waiting Going v
+idle-choice h waiting true quiet v none idle quietly is = let same : EndsLoop loop_end.Idle ≡ v = cc in subst (HubChoice h waiting Going) same (idles none idle)
+idle-choice h waiting false true v none idle quietly is =
+    let same : EndsLoop loop_end.Quiet ≡ v = cc in subst (HubChoice h waiting Going) same (quiets none idle quietly)
+idle-choice h waiting false false v none idle quietly is = cc
 
-going-choice : (h : Hub) (o : Option HubMove) (v : Event) → hub_move h ≡ o → option_or (option_map Moves o) (option_map EndsLoop (idle_reason h)) ≡ Some v → HubChoice h Going v
-going-choice h (Some move) v next is = let same : Moves move ≡ v = cc in subst (HubChoice h Going) same (moves_in_loop move next)
-going-choice h None v next is = idle-choice h (is_idle h) (is_quiet h) v next refl refl is
+going-choice : (h : Hub) (waiting : ℕ) (o : Option HubMove) (v : Event) → hub_move h ≡ o
+    → option_or (option_map Moves o) (option_map EndsLoop (idle_reason h)) ≡ Some v → HubChoice h waiting Going v
+going-choice h waiting (Some move) v next is = let same : Moves move ≡ v = cc in subst (HubChoice h waiting Going) same (moves_in_loop move next)
+going-choice h waiting None v next is = idle-choice h waiting (is_idle h) (is_quiet h) v next refl refl is
 
-spent-choice : (h : Hub) (spent : Bool) (v : Event) → hub_move h ≡ None → is_spent h ≡ spent → cond spent (Some FinalsCome) None ≡ Some v → HubChoice h Drained v
-spent-choice h true v none spent is = let same : FinalsCome ≡ v = cc in subst (HubChoice h Drained) same (finals none spent)
-spent-choice h false v none spent is = cc
+spent-choice : (h : Hub) (waiting : ℕ) (spent : Bool) (v : Event) → hub_move h ≡ None → is_spent h ≡ spent
+    → cond spent (Some FinalsCome) None ≡ Some v → HubChoice h waiting Drained v
+spent-choice h waiting true v none spent is = let same : FinalsCome ≡ v = cc in subst (HubChoice h waiting Drained) same (finals none spent)
+spent-choice h waiting false v none spent is = cc
 
-drained-choice : (h : Hub) (o : Option HubMove) (v : Event) → hub_move h ≡ o → option_or (option_map Moves o) (finals_choice h) ≡ Some v → HubChoice h Drained v
-drained-choice h (Some move) v next is = let same : Moves move ≡ v = cc in subst (HubChoice h Drained) same (moves_at_end move next)
-drained-choice h None v next is = spent-choice h (is_spent h) v next refl is
+drained-choice : (h : Hub) (waiting : ℕ) (o : Option HubMove) (v : Event) → hub_move h ≡ o
+    → option_or (option_map Moves o) (finals_choice h) ≡ Some v → HubChoice h waiting Drained v
+drained-choice h waiting (Some move) v next is = let same : Moves move ≡ v = cc in subst (HubChoice h waiting Drained) same (moves_at_end move next)
+drained-choice h waiting None v next is = spent-choice h waiting (is_spent h) v next refl is
 
-pub hub-choice : (h : Hub) (s : Stage) (v : Event) → hub_choice_at h s ≡ Some v → HubChoice h s v
-hub-choice h Before v is = let same : Goes ≡ v = cc in subst (HubChoice h Before) same goes
-hub-choice h Going v is = going-choice h (hub_move h) v refl is
-hub-choice h Looped v is = let same : Drains ≡ v = cc in subst (HubChoice h Looped) same drains
-hub-choice h Drained v is = drained-choice h (hub_move h) v refl is
-hub-choice h Final v is = cc
+pub hub-choice : (h : Hub) (waiting : ℕ) (s : Stage) (v : Event) → hub_choice_at h waiting s ≡ Some v → HubChoice h waiting s v
+hub-choice h waiting Before v is = let same : Goes ≡ v = cc in subst (HubChoice h waiting Before) same goes
+hub-choice h waiting Going v is = going-choice h waiting (hub_move h) v refl is
+hub-choice h waiting Looped v is = let same : Drains ≡ v = cc in subst (HubChoice h waiting Looped) same drains
+hub-choice h waiting Drained v is = drained-choice h waiting (hub_move h) v refl is
+hub-choice h waiting Final v is = cc
 
 -- BOTH
 -- the event is one that the environment decides alone, or else the hub's
-pub chosen-by : (m : Machine) (v : Event) → choice m ≡ Some v → (local_choice m.env ≡ Some v) ⊎ ((local_choice m.env ≡ None) × (hub_choice m.hub ≡ Some v))
+pub chosen-by : (m : Machine) (v : Event) → choice m ≡ Some v
+    → (local_choice m.env ≡ Some v) ⊎ ((local_choice m.env ≡ None) × (hub_choice m.hub (waiting_hooks m.env) ≡ Some v))
 chosen-by m v is = by (local_choice m.env) refl is
   where
-    by : (o : Option Event) → local_choice m.env ≡ o → option_or o (hub_choice m.hub) ≡ Some v
-        → (local_choice m.env ≡ Some v) ⊎ ((local_choice m.env ≡ None) × (hub_choice m.hub ≡ Some v))
+    by : (o : Option Event) → local_choice m.env ≡ o → option_or o (hub_choice m.hub (waiting_hooks m.env)) ≡ Some v
+        → (local_choice m.env ≡ Some v) ⊎ ((local_choice m.env ≡ None) × (hub_choice m.hub (waiting_hooks m.env) ≡ Some v))
     by (Some w) here is = inl (here ∙ is)
     by None here is = inr (here, is)
 
 -- it is one of the environment's in its phase, or one of the hub's where that has come so far
 pub chosen-in-phase : (m : Machine) (v : Event) → choice m ≡ Some v
-    → OwnChoice m.env m.env.phase v ⊎ NoChoice m.env m.env.phase × HubChoice m.hub m.hub.stage v
+    → OwnChoice m.env m.env.phase v ⊎ NoChoice m.env m.env.phase × HubChoice m.hub (waiting_hooks m.env) m.hub.stage v
 chosen-in-phase m v is = by (chosen-by m v is)
   where
-    by : (local_choice m.env ≡ Some v) ⊎ ((local_choice m.env ≡ None) × (hub_choice m.hub ≡ Some v))
-        → OwnChoice m.env m.env.phase v ⊎ NoChoice m.env m.env.phase × HubChoice m.hub m.hub.stage v
+    by : (local_choice m.env ≡ Some v) ⊎ ((local_choice m.env ≡ None) × (hub_choice m.hub (waiting_hooks m.env) ≡ Some v))
+        → OwnChoice m.env m.env.phase v ⊎ NoChoice m.env m.env.phase × HubChoice m.hub (waiting_hooks m.env) m.hub.stage v
     by (inl mine) = inl (own-choice m.env m.env.phase v mine)
-    by (inr its) = inr (no-choice m.env m.env.phase its.0, hub-choice m.hub m.hub.stage v its.1)
+    by (inr its) = inr (no-choice m.env m.env.phase its.0, hub-choice m.hub (waiting_hooks m.env) m.hub.stage v its.1)
 
 -- a move is the hub's next one
 pub chosen-move : (m : Machine) (move : HubMove) → choice m ≡ Some (Moves move) → hub_move m.hub ≡ Some move
@@ -151,13 +156,14 @@ chosen-move m move is = by (chosen-by m (Moves move) is)
     own : (p : Phase) → OwnChoice m.env p (Moves move) → ⊥
     own p o = elim o [ ]
 
-    of-hub : (s : Stage) → HubChoice m.hub s (Moves move) → hub_move m.hub ≡ Some move
+    of-hub : (s : Stage) → HubChoice m.hub (waiting_hooks m.env) s (Moves move) → hub_move m.hub ≡ Some move
     of-hub _ (moves_in_loop _ next) = next
     of-hub _ (moves_at_end _ next) = next
 
-    by : (local_choice m.env ≡ Some (Moves move)) ⊎ ((local_choice m.env ≡ None) × (hub_choice m.hub ≡ Some (Moves move))) → hub_move m.hub ≡ Some move
+    by : (local_choice m.env ≡ Some (Moves move)) ⊎ ((local_choice m.env ≡ None) × (hub_choice m.hub (waiting_hooks m.env) ≡ Some (Moves move)))
+        → hub_move m.hub ≡ Some move
     by (inl is) = absurd (own m.env.phase (own-choice m.env m.env.phase (Moves move) is))
-    by (inr is) = of-hub m.hub.stage (hub-choice m.hub m.hub.stage (Moves move) is.1)
+    by (inr is) = of-hub m.hub.stage (hub-choice m.hub (waiting_hooks m.env) m.hub.stage (Moves move) is.1)
 
 -- an init frame is that of an addon that is there
 own-init : (e : Environment) (p : Phase) (k : ℕ) → OwnChoice e p (Inits k) → k < e.addons
@@ -166,9 +172,9 @@ own-init e _ _ (inits opened left) = ltb-true e.inits e.addons left
 pub chosen-init : (m : Machine) (k : ℕ) → choice m ≡ Some (Inits k) → k < m.env.addons
 chosen-init m k is = by (chosen-by m (Inits k) is)
   where
-    of-hub : (s : Stage) → HubChoice m.hub s (Inits k) → ⊥
+    of-hub : (s : Stage) → HubChoice m.hub (waiting_hooks m.env) s (Inits k) → ⊥
     of-hub s c = elim c [ ]
 
-    by : (local_choice m.env ≡ Some (Inits k)) ⊎ ((local_choice m.env ≡ None) × (hub_choice m.hub ≡ Some (Inits k))) → k < m.env.addons
+    by : (local_choice m.env ≡ Some (Inits k)) ⊎ ((local_choice m.env ≡ None) × (hub_choice m.hub (waiting_hooks m.env) ≡ Some (Inits k))) → k < m.env.addons
     by (inl is) = own-init m.env m.env.phase k (own-choice m.env m.env.phase (Inits k) is)
-    by (inr is) = absurd (of-hub m.hub.stage (hub-choice m.hub m.hub.stage (Inits k) is.1))
+    by (inr is) = absurd (of-hub m.hub.stage (hub-choice m.hub (waiting_hooks m.env) m.hub.stage (Inits k) is.1))

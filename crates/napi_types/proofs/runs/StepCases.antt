@@ -28,7 +28,7 @@ use Rattle.napi_types.specs.hub.Hub.{IsStageOf, Stage, Before, Going, Looped, Dr
 use Rattle.napi_types.specs.hub.HubMoves.{HubMove, hub_move}
 use Rattle.napi_types.specs.hub.HubEvents.{is_moving}
 use Rattle.napi_types.specs.hub.HubSteps.{hub_step}
-use Rattle.napi_types.specs.runs.Choice.{choice}
+use Rattle.napi_types.specs.runs.Choice.{choice, waiting_hooks}
 use Rattle.napi_types.specs.runs.Loop.{EndsLoop, Event}
 use Rattle.napi_types.specs.runs.Machine.{Machine}
 use Rattle.napi_types.specs.runs.Run.{IsNext}
@@ -119,7 +119,7 @@ own-case m _ _ here far (choices.ends lowest) may = vanishes here
 
 -- .. or the hub where it decides none
 hub-case : (m : Machine) (p : Phase) (s : Stage) (v : Event) → m.env.frames ≡ [] → m.env.phase ≡ p → m.hub.stage ≡ s → IsStageOf p s
-    → HubChoice m.hub s v → NoChoice m.env p → StepCase m (event_step m v)
+    → HubChoice m.hub (waiting_hooks m.env) s v → NoChoice m.env p → StepCase m (event_step m v)
 hub-case m _ _ _ alone here far shown choices.goes (choices.begun opened left) =
     passes phase.Live out.Nothing (record { next = rw here refl; never = λ z. cc; far = stage-moved m host.Go Before far; entry = refl; left = λ z. cc })
 hub-case m _ _ _ alone here far shown (choices.idles none idle) (choices.waits unasked lowest) = loop_end-case m loop_end.Idle here far
@@ -136,7 +136,7 @@ hub-case m _ _ _ alone here far shown _ _ = cc
 event-case : (m : Machine) (v : Event) → m.env.frames ≡ [] → InPhase m → choice m ≡ Some v → IsTrue (event_step m v).may → StepCase m (event_step m v)
 event-case m v alone far next may = by (chosen-in-phase m v next)
   where
-    by : OwnChoice m.env m.env.phase v ⊎ NoChoice m.env m.env.phase × HubChoice m.hub m.hub.stage v → StepCase m (event_step m v)
+    by : OwnChoice m.env m.env.phase v ⊎ NoChoice m.env m.env.phase × HubChoice m.hub (waiting_hooks m.env) m.hub.stage v → StepCase m (event_step m v)
     by (inl mine) = own-case m m.env.phase v refl far mine may
     by (inr its) = hub-case m m.env.phase m.hub.stage v alone refl refl far its.1 its.0
 

@@ -22,8 +22,8 @@ NextEventsMayCome = (s : Setting) (bs : List Ask) (xs : List Entry) (event : Eve
 
 -- until `finals`, where the hub has no event, a thread or a worker goes on: not all that are left wait, neither in the loop nor after the drain
 abbrev pub SomebodyAlwaysGoesOn : Type 0
-SomebodyAlwaysGoesOn = (limit threads workers : ℕ) (history : List Entry) (h : Hub) → LeadsTo limit threads workers history h
-    → h.stage ≢ Final → hub_choice h ≡ None → SomebodyGoesOn h
+SomebodyAlwaysGoesOn = (limit threads workers : ℕ) (history : List Entry) (h : Hub) (waiting : ℕ) → LeadsTo limit threads workers history h
+    → h.stage ≢ Final → hub_choice h waiting ≡ None → SomebodyGoesOn h
 
 -- an entry of a thread or a worker that may come next
 pub record AnotherGoesOn (m : Machine) : Type 0 where

@@ -1,6 +1,6 @@
 -- The next event where no frame stands: the one that the environment decides alone, or else the hub's.
 use Rattle.std.specs.Option.{option_or}
-use Rattle.std.specs.Prelude.{cond, Option, Some, None, option_map}
+use Rattle.std.specs.Prelude.{ℕ, cond, Option, Some, None, option_map}
 use Rattle.napi_types.specs.declared.entry.Phase.{Phase}
 use Rattle.napi_types.specs.declared.entry.Phase.TheVariants as phase
 use Rattle.napi_types.specs.environment.Environment.{Environment}
@@ -26,18 +26,23 @@ local_choice e = local_choice_in e e.phase
 abbrev pub finals_choice : Hub → Option Event
 finals_choice h = cond (is_spent h) (Some FinalsCome) None
 
--- its next event by how far it is: in the loop and after the drain its moves come first, and then the loop ends for the hub's own reason, or `finals` comes
-abbrev pub hub_choice_at : Hub → Stage → Option Event
-hub_choice_at h Before = Some Goes
-hub_choice_at h Going = option_or (option_map Moves (hub_move h)) (option_map EndsLoop (idle_reason h))
-hub_choice_at h Looped = Some Drains
-hub_choice_at h Drained = option_or (option_map Moves (hub_move h)) (finals_choice h)
-hub_choice_at h Final = None
+-- its next event by how many hooks wait and by how far it is: in the loop and after the drain its moves come first, and then the loop ends for the hub's own
+-- reason, or `finals` comes
+abbrev pub hub_choice_at : Hub → ℕ → Stage → Option Event
+hub_choice_at h waiting Before = Some Goes
+hub_choice_at h waiting Going = option_or (option_map Moves (hub_move h)) (option_map EndsLoop (idle_reason h))
+hub_choice_at h waiting Looped = Some Drains
+hub_choice_at h waiting Drained = option_or (option_map Moves (hub_move h)) (finals_choice h)
+hub_choice_at h waiting Final = None
 
-abbrev pub hub_choice : Hub → Option Event
-hub_choice h = hub_choice_at h h.stage
+abbrev pub hub_choice : Hub → ℕ → Option Event
+hub_choice h waiting = hub_choice_at h waiting h.stage
 
 -- BOTH
+-- how many hooks of the environment wait: none does as long as all hooks are synchronous
+abbrev pub waiting_hooks : Environment → ℕ
+waiting_hooks e = 0
+
 -- the hub decides only where the environment does not
 abbrev pub choice : Machine → Option Event
-choice m = option_or (local_choice m.env) (hub_choice m.hub)
+choice m = option_or (local_choice m.env) (hub_choice m.hub (waiting_hooks m.env))

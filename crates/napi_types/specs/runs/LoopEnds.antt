@@ -1,6 +1,6 @@
 -- Why the loop ends: the machine's choice and the hub's word say the same.
 use Rattle.std.specs.Option.{option_or}
-use Rattle.std.specs.Prelude.{◌≡◌, cond, is_some, Option, Some, None, option_map}
+use Rattle.std.specs.Prelude.{◌≡◌, ℕ, cond, is_some, Option, Some, None, option_map}
 use Rattle.napi_types.specs.declared.entry.LoopEnd.{LoopEnd}
 use Rattle.napi_types.specs.declared.entry.LoopEnd.TheVariants as loop_end
 use Rattle.napi_types.specs.declared.entry.Phase.TheVariants as phase
@@ -23,5 +23,5 @@ LoopsEndForTheReason = (m : Machine) → m.env.phase ≡ phase.Live → m.hub.st
 
 -- where the hub has no move the loop ends idle, or else quiet
 abbrev pub LoopsEndIdleOrQuiet : Type 0
-LoopsEndIdleOrQuiet = (h : Hub) → hub_choice_at h Going
+LoopsEndIdleOrQuiet = (h : Hub) (waiting : ℕ) → hub_choice_at h waiting Going
     ≡ option_or (option_map Moves (hub_move h)) (cond (is_idle h) (Some (EndsLoop loop_end.Idle)) (cond (is_quiet h) (Some (EndsLoop loop_end.Quiet)) None))
