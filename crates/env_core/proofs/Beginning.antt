@@ -13,7 +13,7 @@ use Rattle.napi_types.specs.declared.entry.Phase.TheVariants as phase
 use Rattle.napi_types.specs.declared.entry.Why.{Why}
 use Rattle.napi_types.specs.plain.Lists.{tail}
 use Rattle.napi_types.specs.parts.Attachments.{Wrapped, Attached, Attachments}
-use Rattle.napi_types.specs.parts.Book.{Book, Registration, TicketState, Registered, is_registered, is_begun, is_at, registration_at, due_info, made_due_and_begun, made_ended, moved_at, moved_where, with_registration, begun_in}
+use Rattle.napi_types.specs.parts.Book.{Book, Registration, TicketState, Registered, is_registered, is_begun, is_at, registration_at, due_info, made_due_and_begun, made_ended, changed_where, moved, moved_at, with_registration, begun_in}
 use Rattle.napi_types.specs.parts.Duties.{duties_of}
 use Rattle.napi_types.specs.parts.Frames.{Frame, duty_of, frame_of_duty, ask_counted, is_hub_duty}
 use Rattle.napi_types.specs.parts.Graph.{StoreState, IsLive}
@@ -27,8 +27,8 @@ use Rattle.napi_types.specs.environment.Environment.{Environment, FunctionRoot}
 use Rattle.napi_types.specs.environment.Hooked.{is_late, IsHooked}
 use Rattle.napi_types.specs.environment.Tickets.{hooks_left, ticket_change}
 use Rattle.napi_types.proofs.plain.Found.{same-self}
-use Rattle.napi_types.proofs.parts.Books.{length-moved, All-moved}
-use Rattle.napi_types.proofs.parts.Moved.{IsUnder, PassesTest, under-ticket, is_at-moved_where, is_at-before}
+use Rattle.napi_types.proofs.parts.Books.{length-changed_where, All-changed_where}
+use Rattle.napi_types.proofs.parts.Moved.{IsUnder, PassesTest, under-ticket, KeepsCause, is_at-changed_where, is_at-before}
 use Rattle.napi_types.proofs.parts.Moves.{Move, Ends, next, begun-moved}
 use Rattle.napi_types.proofs.environment.HookedSteps.{hook-registered}
 use Rattle.napi_types.proofs.environment.Registrations.{registered-holds, left-kept, AreUncalled}
@@ -53,8 +53,10 @@ stays-begun frames old new stays begun = λ k d inside. begun-still old new stay
 same-book : (frames : List Frame) (mid new : Book) → new ≡ mid → IsBookOf frames mid → IsBookOf frames new
 same-book frames mid new is book = let P : Book → Type 0 = λ b. IsBookOf frames b in subst P (sym is) book
 
-moved-uncalled : (move : TicketState → TicketState) (test : ℕ → Bool) (book : Book) → All (λ r. r.cause ≢ cause.Call) book → All (λ r. r.cause ≢ cause.Call) (moved_where move test book)
-moved-uncalled move test book all = All-moved (λ (r : Registration). r.cause ≢ cause.Call) move (λ r h. h) test book all
+changed-uncalled : (change : Registration → Registration) → KeepsCause change → (test : ℕ → Bool) (book : Book) → All (λ r. r.cause ≢ cause.Call) book
+    → All (λ r. r.cause ≢ cause.Call) (changed_where change test book)
+changed-uncalled change keeps test book all =
+    All-changed_where (λ (r : Registration). r.cause ≢ cause.Call) change (λ r uncalled called. uncalled (sym (keeps r) ∙ called)) test book all
 
 -- one registration more
 registered-stays : (r : Registration) (book : Book) → StayBegun book (with_registration r book)
@@ -69,22 +71,22 @@ book-registered frames old new r is uncalled book =
     })
 
 -- a move that a ticket makes, other than its end
-moved-stays : (move : Move) → move ≢ Ends → (test : ℕ → Bool) (book : Book) → StayBegun book (moved_where (next move) test book)
-moved-stays move goes test book n is = is_at-moved_where is_begun (next move) test book n u.registration u.there ∙ by (test n)
+moved-stays : (move : Move) → move ≢ Ends → (test : ℕ → Bool) (book : Book) → StayBegun book (changed_where (moved (next move)) test book)
+moved-stays move goes test book n is = is_at-changed_where is_begun (moved (next move)) test book n u.registration u.there ∙ by (test n)
   where
     u : IsUnder (PassesTest is_begun) book n
     u = under-ticket is_begun book n is
 
-    by : (b : Bool) → is_begun (cond b (next move u.registration.state) u.registration.state) ≡ true
+    by : (b : Bool) → is_begun (cond b (moved (next move) u.registration) u.registration).state ≡ true
     by true = begun-moved move goes u.registration.state u.holds
     by false = u.holds
 
-pub book-moved : (frames : List Frame) (move : Move) → move ≢ Ends → (old new : Book) (test : ℕ → Bool) → new ≡ moved_where (next move) test old
+pub book-moved : (frames : List Frame) (move : Move) → move ≢ Ends → (old new : Book) (test : ℕ → Bool) → new ≡ changed_where (moved (next move)) test old
     → IsBookOf frames old → IsBookOf frames new
 book-moved frames move goes old new test is book =
-    same-book frames (moved_where (next move) test old) new is (record {
-      begun = stays-begun frames old (moved_where (next move) test old) (moved-stays move goes test old) book.begun;
-      uncalled = moved-uncalled (next move) test old book.uncalled;
+    same-book frames (changed_where (moved (next move)) test old) new is (record {
+      begun = stays-begun frames old (changed_where (moved (next move)) test old) (moved-stays move goes test old) book.begun;
+      uncalled = changed-uncalled (moved (next move)) (λ r. refl) test old book.uncalled;
     })
 
 -- the book gave what it gave before, however its tickets moved
@@ -100,7 +102,7 @@ attached-moved s a old new same i = record {
 }
 
 pub attached-at : (s : StoreState) (a : Attachments) (old new : Book) (move : TicketState → TicketState) (n : ℕ) → new ≡ moved_at move n old → IsAttached s a old → IsAttached s a new
-attached-at s a old new move n is i = attached-moved s a old new (ap length is ∙ length-moved move (λ m. m == n) old) i
+attached-at s a old new move n is i = attached-moved s a old new (ap length is ∙ length-changed_where (moved move) (λ m. m == n) old) i
 
 -- THE FRAMES CHANGE
 -- one ask more
@@ -126,7 +128,8 @@ book-ended frames left old new d none is book =
     let P : List Frame → Type 0 = λ fs. IsBookOf fs new in
     subst P (sym none) (same-book [] (duty_ended (Some d) old) new is (record {
       begun = All-nil (HasBegun (duty_ended (Some d) old));
-      uncalled = left-kept AreUncalled old (λ t. moved-uncalled made_ended (λ m. m == t) old book.uncalled) cause.Init (Some d) book.uncalled;
+      uncalled =
+          left-kept AreUncalled old (λ t. changed-uncalled (moved made_ended) (λ r. refl) (λ m. m == t) old book.uncalled) cause.Init (Some d) book.uncalled;
     }))
 
 -- the frame of a duty that begins stands alone
@@ -148,7 +151,7 @@ book-begun frames left old new f d move n none moves is of begun book =
     let R : Book → Type 0 = λ b. All (λ (r : Registration). r.cause ≢ cause.Call) b in
     subst P (sym is) (record {
       begun = begun-alone frames new f d none of (begun-ticket new d begun);
-      uncalled = subst R (sym moves) (moved-uncalled move (λ m. m == n) old book.uncalled);
+      uncalled = subst R (sym moves) (changed-uncalled (moved move) (λ r. refl) (λ m. m == n) old book.uncalled);
     })
 
 -- that of a duty of the hub, of which the book tells nothing
@@ -178,8 +181,8 @@ hook-begins _ is = cc
 
 pub hook-begun : (old new : Book) (n : ℕ) (r : Registration) → registration_at old n ≡ Some r → is_registered r.state ≡ true → new ≡ moved_at made_due_and_begun n old → is_at is_begun new n ≡ true
 hook-begun old new n r there registered is =
-    ap (λ (b : Book). is_at is_begun b n) is ∙ is_at-moved_where is_begun made_due_and_begun (λ m. m == n) old n r there
-    ∙ ap (λ b. is_begun (cond b (made_due_and_begun r.state) r.state)) (same-self n) ∙ hook-begins r.state registered
+    ap (λ (b : Book). is_at is_begun b n) is ∙ is_at-changed_where is_begun (moved made_due_and_begun) (λ m. m == n) old n r there
+    ∙ ap (λ b. is_begun (cond b (moved made_due_and_begun r) r).state) (same-self n) ∙ hook-begins r.state registered
 
 -- the environment after the begin, by the phase
 abbrev begun_as : Phase → ℕ → Registration → Environment → Environment
@@ -235,7 +238,7 @@ duty_ticket (duty.Ticket t) book begun = refl
 duty_ticket _ book begun = cc
 
 pub length-duty : (d : Option Duty) (book : Book) → length (duty_ended d book) ≡ length book
-length-duty (Some (duty.Ticket t)) book = length-moved made_ended (λ m. m == t.0) book
+length-duty (Some (duty.Ticket t)) book = length-changed_where (moved made_ended) (λ m. m == t.0) book
 length-duty _ book = refl
 
 pub attached-ended : (s : StoreState) (a : Attachments) (old new : Book) (d : Duty) → new ≡ duty_ended (Some d) old → IsAttached s a old → IsAttached s a new

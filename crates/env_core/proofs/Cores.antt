@@ -22,7 +22,7 @@ use Rattle.napi_types.specs.plain.CallKinds.{is_calling, is_value_call}
 use Rattle.napi_types.specs.plain.Lists.{tail}
 use Rattle.napi_types.specs.plain.Phases.{next_phase}
 use Rattle.napi_types.specs.plain.Room.{one_if, need, is_full}
-use Rattle.napi_types.specs.parts.Book.{Book, Registration, is_registered, is_due, registration_at, lowest_due, owed_tickets, made_due, moved_at, begun_in, may_begin_in}
+use Rattle.napi_types.specs.parts.Book.{Book, Registration, is_registered, is_due, registration_at, lowest_due, owed_tickets, made_due, moved, moved_at, begun_in, may_begin_in}
 use Rattle.napi_types.specs.parts.Frames.{Frame, asks_made, caller_of, cause_of, duty_of, is_hub_duty, local_frames}
 use Rattle.napi_types.specs.parts.Hooks.{last_hook}
 use Rattle.napi_types.specs.environment.Calls.{answer_unless_deep}
@@ -35,7 +35,7 @@ use Rattle.napi_types.specs.environment.JournalRoom.{gone_place, reserved_journa
 use Rattle.napi_types.specs.environment.Refusals.{refusal, early_refusal, depth_refusal}
 use Rattle.napi_types.specs.environment.Tickets.{ticket_change, ticket_in, next_ticket}
 use Rattle.napi_types.proofs.parts.BookSteps.{step-length}
-use Rattle.napi_types.proofs.parts.Books.{owed-begun, lowest-due, length-moved}
+use Rattle.napi_types.proofs.parts.Books.{owed-begun, lowest-due, length-changed_where}
 use Rattle.napi_types.proofs.parts.Moved.{IsUnder, PassesTest}
 use Rattle.napi_types.proofs.environment.Answers.{course-parts, KeepsButAsk, call_change-keeps, call-reserved}
 use Rattle.napi_types.proofs.environment.FrameChanges.{book_left, owed-left, KeepsButFrame, ended-keeps}
@@ -200,12 +200,12 @@ core-begun old new pages after x n r c next there is e =
     core-pushed old new pages after x (pages.promised - 1) c e (omega (arith, fewer, c.reserved)) (omega (arith, fewer, c.reserved, c.within))
     (omega (arith, ap (λ (s : Environment). s.heap.handles) is)) (omega (arith, ap (λ (s : Environment). length s.heap.scope_numbers) is))
     (omega (arith, ap (λ (s : Environment). length s.references.issued) is)) (omega (arith, ap (λ (s : Environment). s.heap.made) is))
-    (omega (arith, ap (λ (s : Environment). length s.book) is, length-moved (begun_in old.phase) (λ m. m == n) old.book))
+    (omega (arith, ap (λ (s : Environment). length s.book) is, length-changed_where (moved (begun_in old.phase)) (λ m. m == n) old.book))
     (subst (λ (s : Environment). IsHooked s) (sym is) (hooked-begun n r old there may c.hooked))
 
 -- A PHASE STARTS
 length-in : (p : Phase) (book : Book) → length (book_in p book) ≡ length book
-length-in phase.Finals book = length-moved made_due (λ n. true) book
+length-in phase.Finals book = length-changed_where (moved made_due) (λ n. true) book
 length-in _ book = refl
 
 one-place : (p : Phase) → p ≢ phase.Gone → gone_place p ≡ 1

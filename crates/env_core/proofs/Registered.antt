@@ -19,7 +19,7 @@ use Rattle.napi_types.specs.declared.status.Status.TheVariants as status
 use Rattle.napi_types.specs.plain.Lists.{has}
 use Rattle.napi_types.specs.plain.Replies.{Answer, accepts}
 use Rattle.napi_types.specs.parts.Attachments.{Wrapped, Attached, Attachments, wrap_of, wrap_ticket, with_wrap, without_wrap, with_attached}
-use Rattle.napi_types.specs.parts.Book.{Book, Registration, made_withdrawn, new_ticket, with_registration}
+use Rattle.napi_types.specs.parts.Book.{Book, Registration, made_withdrawn, moved, new_ticket, with_registration}
 use Rattle.napi_types.specs.parts.Frames.{Frame}
 use Rattle.napi_types.specs.parts.Graph.{StoreState, IsSoundStore, IsLive, number_in}
 use Rattle.napi_types.specs.parts.Heap.{Heap, handle_value}
@@ -37,7 +37,7 @@ use Rattle.napi_types.specs.environment.WrapCalls.{referring_if}
 use Rattle.napi_types.proofs.plain.Maps.{All-with_record, map-with_record}
 use Rattle.napi_types.proofs.plain.Lists.{length-changed}
 use Rattle.napi_types.proofs.plain.Found.{apart-below}
-use Rattle.napi_types.proofs.parts.Books.{length-moved}
+use Rattle.napi_types.proofs.parts.Books.{length-changed_where}
 use Rattle.napi_types.proofs.parts.Moves.{Withdraws}
 use Rattle.handle_scope.specs.HandleScopes.{HandleScopes}
 use Rattle.env_values.specs.SeenValues.{seen_frame, heap_of}
@@ -59,7 +59,7 @@ longer (Some r) book = omega (arith, length-append book (r ∷ []))
 
 pub length-withdrawn : (t : Option ℕ) (book : Book) → length (withdrawn_if t book) ≡ length book
 length-withdrawn None book = refl
-length-withdrawn (Some n) book = length-moved made_withdrawn (λ m. m == n) book
+length-withdrawn (Some n) book = length-changed_where (moved made_withdrawn) (λ m. m == n) book
 
 pub longer-withdrawn : (t : Option ℕ) (book : Book) → length book ≤ length (withdrawn_if t book)
 longer-withdrawn t book = omega (arith, length-withdrawn t book)

@@ -1,25 +1,25 @@
--- What a move changes of the book, and how a row that is written in its place moves a ticket.
+-- What a change of a registration makes of the book, and how a row that is written in its place is one.
 use Rattle.std.proofs.Common.{◌≡◌, ◌∙◌, ℕ, zero, suc, ◌+◌, ◌-◌, ◌<◌, ◌≤◌, ◌==◌, ◌∷◌, nat_lt, Bool, true, false, cond, List, [], length, set, get_or, slice_get, Option, Some, None, option_map, refl, ap, sym, arith}
 use Rattle.std.specs.Option.{unwrap_or}
 use Rattle.std.proofs.lemmas.List.{map-set, length-map}
 use Rattle.std.proofs.lemmas.Option.{slice_get-map, slice_get_read, slice_get_within, slice_get_past}
 use Rattle.std.proofs.lemmas.Bool.{eq-eqb, le-ltb, lt-ltb}
-use Rattle.napi_types.specs.parts.Book.{Book, Registration, TicketState, made_due, moved, moved_from, moved_at, due_where, all_due, registration_at, is_at}
+use Rattle.napi_types.specs.parts.Book.{Book, Registration, TicketState, made_due, changed_from, changed_at, moved, moved_at, due_where, all_due, registration_at, is_at}
 use Rattle.napi_types.proofs.plain.Counted.{slice_get-set}
 use Rattle.napi_types.proofs.plain.Found.{apart-below, next-same, turned}
-use Rattle.napi_types.proofs.parts.Books.{moved_from-below, length-moved}
+use Rattle.napi_types.proofs.parts.Books.{changed_from-below, length-changed_where}
 use Rattle.finalizer_queue.specs.declared.rows.TicketRow.{TicketRow}
 use Rattle.finalizer_queue.specs.TicketRows.{row_registration, row_state, book_of}
 
--- A TICKET IS MOVED
-moved_from-at : (move : TicketState → TicketState) (k p n : ℕ) (rs : List Registration) (x y : Registration) → n ≡ k + p → slice_get rs p ≡ Some x → y ≡ moved move x
-    → set rs p y ≡ moved_from k move (λ m. m == n) rs
-moved_from-at move k p n [] x y at here is = let no : ⊥ = cc in absurd no
-moved_from-at move k zero n (r ∷ rs) x y at here is =
+-- A REGISTRATION IS CHANGED
+changed_from-at : (change : Registration → Registration) (k p n : ℕ) (rs : List Registration) (x y : Registration) → n ≡ k + p → slice_get rs p ≡ Some x
+    → y ≡ change x → set rs p y ≡ changed_from k change (λ m. m == n) rs
+changed_from-at change k p n [] x y at here is = let no : ⊥ = cc in absurd no
+changed_from-at change k zero n (r ∷ rs) x y at here is =
     let same : r ≡ x = cc in
-    rw (eq-eqb k n (omega arith), moved_from-below move (suc k) n rs (omega arith), same, is) refl
-moved_from-at move k (suc p) n (r ∷ rs) x y at here is =
-    rw (apart-below k n (omega arith)) (ap (λ qs. r ∷ qs) (moved_from-at move (suc k) p n rs x y (omega arith) here is))
+    rw (eq-eqb k n (omega arith), changed_from-below change (suc k) n rs (omega arith), same, is) refl
+changed_from-at change k (suc p) n (r ∷ rs) x y at here is =
+    rw (apart-below k n (omega arith)) (ap (λ qs. r ∷ qs) (changed_from-at change (suc k) p n rs x y (omega arith) here is))
 
 -- x is the row of the ticket n
 pub record IsTicketRow (rows : List TicketRow) (n : ℕ) (x : TicketRow) : Type 0 where
@@ -27,14 +27,15 @@ pub record IsTicketRow (rows : List TicketRow) (n : ℕ) (x : TicketRow) : Type 
   pub above : 1 ≤ n
   pub within : n ≤ length rows
 
--- a row that is written in the place of the ticket n, as x was moved there
-pub book_of-moved : (move : TicketState → TicketState) (rows : List TicketRow) (n : ℕ) (x y : TicketRow) → IsTicketRow rows n x
-    → row_registration y ≡ moved move (row_registration x) → book_of (set rows (n - 1) y) ≡ moved_at move n (book_of rows)
-book_of-moved move rows n x y row is =
+-- a row that is written in the place of the ticket n, as x was changed there
+pub book_of-changed : (change : Registration → Registration) (rows : List TicketRow) (n : ℕ) (x y : TicketRow) → IsTicketRow rows n x
+    → row_registration y ≡ change (row_registration x) → book_of (set rows (n - 1) y) ≡ changed_at change n (book_of rows)
+book_of-changed change rows n x y row is =
     let read : slice_get (book_of rows) (n - 1) ≡ Some (row_registration x) =
     slice_get-map row_registration rows (n - 1)
     ∙ ap (option_map row_registration) (slice_get_read rows (length rows) (n - 1) x refl (omega (arith, row.above, row.within)) row.here) in
-    map-set row_registration rows (n - 1) y ∙ moved_from-at move 1 (n - 1) n (book_of rows) (row_registration x) (row_registration y) (omega (arith, row.above)) read is
+    map-set row_registration rows (n - 1) y
+    ∙ changed_from-at change 1 (n - 1) n (book_of rows) (row_registration x) (row_registration y) (omega (arith, row.above)) read is
 
 -- WHAT IS UNDER A TICKET
 state-read : (test : TicketState → Bool) (b : Bool) (y : TicketRow) (o : Option TicketRow)
@@ -93,7 +94,7 @@ row-passes test rows book n x view is here =
 
 -- ALL TICKETS FALL DUE, ONE AFTER THE OTHER
 -- no ticket is below 1
-due-none : (k : ℕ) (rs : List Registration) → 1 ≤ k → moved_from k made_due (λ m. nat_lt m 1) rs ≡ rs
+due-none : (k : ℕ) (rs : List Registration) → 1 ≤ k → changed_from k (moved made_due) (λ m. nat_lt m 1) rs ≡ rs
 due-none k [] h = refl
 due-none k (r ∷ rs) h = rw (le-ltb k 1 h) (ap (λ qs. r ∷ qs) (due-none (suc k) rs (omega arith)))
 
@@ -103,7 +104,8 @@ due_where-none book = sym (due-none 1 book (omega arith))
 one_more : (k n : ℕ) (r : Registration) → cond (k == n) (moved made_due (cond (nat_lt k n) (moved made_due r) r)) (cond (nat_lt k n) (moved made_due r) r) ≡ cond (nat_lt k (n + 1)) (moved made_due r) r
 one_more k n r = grind arith
 
-due-more : (k n : ℕ) (rs : List Registration) → moved_from k made_due (λ m. m == n) (moved_from k made_due (λ m. nat_lt m n) rs) ≡ moved_from k made_due (λ m. nat_lt m (n + 1)) rs
+due-more : (k n : ℕ) (rs : List Registration)
+    → changed_from k (moved made_due) (λ m. m == n) (changed_from k (moved made_due) (λ m. nat_lt m n) rs) ≡ changed_from k (moved made_due) (λ m. nat_lt m (n + 1)) rs
 due-more k n [] = refl
 due-more k n (r ∷ rs) = rw (one_more k n r, due-more (suc k) n rs) refl
 
@@ -111,7 +113,8 @@ due-more k n (r ∷ rs) = rw (one_more k n r, due-more (suc k) n rs) refl
 pub due_where-more : (book : Book) (n : ℕ) → moved_at made_due n (due_where (λ m. nat_lt m n) book) ≡ due_where (λ m. nat_lt m (n + 1)) book
 due_where-more book n = due-more 1 n book
 
-due-all : (k n : ℕ) (rs : List Registration) → k + length rs ≤ n → moved_from k made_due (λ m. nat_lt m n) rs ≡ moved_from k made_due (λ m. true) rs
+due-all : (k n : ℕ) (rs : List Registration) → k + length rs ≤ n
+    → changed_from k (moved made_due) (λ m. nat_lt m n) rs ≡ changed_from k (moved made_due) (λ m. true) rs
 due-all k n [] h = refl
 due-all k n (r ∷ rs) h = rw (lt-ltb k n (omega arith)) (ap (λ qs. moved made_due r ∷ qs) (due-all (suc k) n rs (omega arith)))
 
@@ -120,4 +123,4 @@ pub due_where-all : (book : Book) (n : ℕ) → length book < n → due_where (�
 due_where-all book n h = due-all 1 n book (omega arith)
 
 pub length-due_where : (test : ℕ → Bool) (book : Book) → length (due_where test book) ≡ length book
-length-due_where test book = length-moved made_due test book
+length-due_where test book = length-changed_where (moved made_due) test book

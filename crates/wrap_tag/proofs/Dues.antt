@@ -9,7 +9,7 @@ use Rattle.std.proofs.lemmas.List.Folds.{list_any-append}
 use Rattle.std.proofs.lemmas.Map.Views.{All-from_any}
 use Rattle.std.proofs.lemmas.Bool.{or_right}
 use Rattle.napi_types.specs.plain.Lists.{has_number}
-use Rattle.napi_types.specs.parts.Book.{TicketState, Registered, Registration, Book, made_due, moved, moved_from, due_where}
+use Rattle.napi_types.specs.parts.Book.{TicketState, Registered, Registration, Book, made_due, changed_from, moved, due_where}
 use Rattle.napi_types.proofs.plain.Found.{same-tells, turned}
 use Rattle.finalizer_queue.proofs.RowMoves.{length-due_where}
 use Rattle.wrap_tag.specs.Wraps.{AreGiven}
@@ -23,7 +23,8 @@ due-moved : (r : Registration) → moved made_due (moved made_due r) ≡ moved m
 due-moved r = ap (λ s. record r { state = s }) (due-due r.state)
 
 -- those that pass one test fall due, and then those that pass another
-from-from : (n : ℕ) (p q : ℕ → Bool) (rs : List Registration) → moved_from n made_due q (moved_from n made_due p rs) ≡ moved_from n made_due (λ m. p m || q m) rs
+from-from : (n : ℕ) (p q : ℕ → Bool) (rs : List Registration)
+    → changed_from n (moved made_due) q (changed_from n (moved made_due) p rs) ≡ changed_from n (moved made_due) (λ m. p m || q m) rs
 from-from n p q [] = refl
 from-from n p q (r ∷ rs) = by (p n) (q n) _ _ (from-from (suc n) p q rs)
   where
@@ -37,15 +38,18 @@ pub due_where-due_where : (p q : ℕ → Bool) (book : Book) → due_where q (du
 due_where-due_where p q book = from-from 1 p q book
 
 -- tests that pass the same tickets
-from-same : (n : ℕ) (p q : ℕ → Bool) (rs : List Registration) → ((m : ℕ) → p m ≡ q m) → moved_from n made_due p rs ≡ moved_from n made_due q rs
+from-same : (n : ℕ) (p q : ℕ → Bool) (rs : List Registration) → ((m : ℕ) → p m ≡ q m)
+    → changed_from n (moved made_due) p rs ≡ changed_from n (moved made_due) q rs
 from-same n p q [] same = refl
-from-same n p q (r ∷ rs) same = ap (λ b. cond b (moved made_due r) r ∷ moved_from (suc n) made_due p rs) (same n) ∙ ap (λ xs. cond (q n) (moved made_due r) r ∷ xs) (from-same (suc n) p q rs same)
+from-same n p q (r ∷ rs) same =
+    ap (λ b. cond b (moved made_due r) r ∷ changed_from (suc n) (moved made_due) p rs) (same n)
+    ∙ ap (λ xs. cond (q n) (moved made_due r) r ∷ xs) (from-same (suc n) p q rs same)
 
 pub due_where-same : (p q : ℕ → Bool) (book : Book) → ((m : ℕ) → p m ≡ q m) → due_where p book ≡ due_where q book
 due_where-same p q book same = from-same 1 p q book same
 
 -- a test that no ticket passes
-from-none : (n : ℕ) (rs : List Registration) → moved_from n made_due (λ m. false) rs ≡ rs
+from-none : (n : ℕ) (rs : List Registration) → changed_from n (moved made_due) (λ m. false) rs ≡ rs
 from-none n [] = refl
 from-none n (r ∷ rs) = ap (λ xs. r ∷ xs) (from-none (suc n) rs)
 

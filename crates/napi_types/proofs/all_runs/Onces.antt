@@ -20,7 +20,7 @@ use Rattle.napi_types.specs.declared.entry.Why.{Why}
 use Rattle.napi_types.specs.declared.ids.HandleId.{HandleId}
 use Rattle.napi_types.specs.plain.Entries.{host_entry, begun_duty}
 use Rattle.napi_types.specs.plain.Room.{one_if, is_full}
-use Rattle.napi_types.specs.parts.Book.{Book, Registration, TicketState, Registered, is_registered, is_owed, is_at, made_due, made_withdrawn, made_ended, moved, moved_where, moved_at, due_where, registration_at, owed_tickets, ticket_duty, new_ticket, with_registration, begun_in, may_begin_in}
+use Rattle.napi_types.specs.parts.Book.{Book, Registration, TicketState, Registered, is_registered, is_owed, is_at, made_due, made_withdrawn, made_ended, changed_where, moved, moved_at, due_where, registration_at, owed_tickets, ticket_duty, new_ticket, with_registration, begun_in, may_begin_in}
 use Rattle.napi_types.specs.parts.Frames.{caller_of, cause_of, duty_of, is_hub_duty}
 use Rattle.napi_types.specs.environment.Changes.{Change, may_call, book_in}
 use Rattle.napi_types.specs.environment.Ends.{duty_ended, end_change}
@@ -41,8 +41,8 @@ use Rattle.napi_types.specs.all_runs.Laws.{TicketsAreCounted}
 use Rattle.napi_types.specs.all_runs.Order.{made_ticket, tickets_made}
 use Rattle.napi_types.proofs.plain.Conditions.{and-right}
 use Rattle.napi_types.proofs.parts.BookSteps.{BookStep, stays, adds, drops, collects, swaps}
-use Rattle.napi_types.proofs.parts.Books.{owed-cons, Leaves, withdrawn-leaves, leaves-in, due-keeps, ended-keeps, length-moved}
-use Rattle.napi_types.proofs.parts.Moved.{registration_at-moved_where, registration_at-new, registration_at-old}
+use Rattle.napi_types.proofs.parts.Books.{owed-cons, Leaves, withdrawn-leaves, leaves-in, due-keeps, ended-keeps, length-changed_where}
+use Rattle.napi_types.proofs.parts.Moved.{registration_at-changed_where, registration_at-new, registration_at-old}
 use Rattle.napi_types.proofs.environment.Answers.{call_change-keeps}
 use Rattle.napi_types.proofs.environment.FrameChanges.{book_left, ended-keeps as end_change-keeps, enter_change-keeps, hangings-parts}
 use Rattle.napi_types.proofs.environment.Cases.{asked-by, ended-by}
@@ -172,30 +172,30 @@ record Account (t : ℕ) (b : Book) (made dropped begun : Option Duty) (c : Book
   pub given : given_at t c ≡ given_at t b + one_if_ticket t made
   pub owed : owed_at t c + one_if_ticket t begun + one_if_ticket t dropped ≡ owed_at t b + one_if_ticket t made
 
--- a move gives no ticket
-given-moved : (move : TicketState → TicketState) (test : ℕ → Bool) (t : ℕ) (b : Book) → given_at t (moved_where move test b) ≡ given_at t b
-given-moved move test t b = ap (λ (o : Option Registration). as_one (is_some o)) (registration_at-moved_where move test b t) ∙ by (registration_at b t)
+-- a change of registrations gives no ticket
+given-changed : (change : Registration → Registration) (test : ℕ → Bool) (t : ℕ) (b : Book) → given_at t (changed_where change test b) ≡ given_at t b
+given-changed change test t b = ap (λ (o : Option Registration). as_one (is_some o)) (registration_at-changed_where change test b t) ∙ by (registration_at b t)
   where
-    by : (o : Option Registration) → as_one (is_some (option_map (λ r. cond (test t) (moved move r) r) o)) ≡ as_one (is_some o)
+    by : (o : Option Registration) → as_one (is_some (option_map (λ r. cond (test t) (change r) r) o)) ≡ as_one (is_some o)
     by None = refl
     by (Some r) = refl
 
--- a move that keeps whether a frame is to come
-owed-kept : (move : TicketState → TicketState) → ((s : TicketState) → is_owed (move s) ≡ is_owed s) → (test : ℕ → Bool) (t : ℕ) (b : Book)
-    → owed_at t (moved_where move test b) ≡ owed_at t b
-owed-kept move keeps test t b =
-    ap (λ (o : Option Registration). as_one (tells is_owed o)) (registration_at-moved_where move test b t) ∙ by (test t) (registration_at b t)
+-- a change that keeps whether a frame is to come
+owed-kept : (change : Registration → Registration) → ((r : Registration) → is_owed (change r).state ≡ is_owed r.state) → (test : ℕ → Bool) (t : ℕ) (b : Book)
+    → owed_at t (changed_where change test b) ≡ owed_at t b
+owed-kept change keeps test t b =
+    ap (λ (o : Option Registration). as_one (tells is_owed o)) (registration_at-changed_where change test b t) ∙ by (test t) (registration_at b t)
   where
-    by : (here : Bool) (o : Option Registration) → as_one (tells is_owed (option_map (λ r. cond here (moved move r) r) o)) ≡ as_one (tells is_owed o)
+    by : (here : Bool) (o : Option Registration) → as_one (tells is_owed (option_map (λ r. cond here (change r) r) o)) ≡ as_one (tells is_owed o)
     by here None = refl
-    by true (Some r) = ap (λ b. as_one b) (keeps r.state)
+    by true (Some r) = ap (λ b. as_one b) (keeps r)
     by false (Some r) = refl
 
 -- a move that takes one ticket from before its frame
 owed-left : (test : TicketState → Bool) (move : TicketState → TicketState) → Leaves test move → (n t : ℕ) (b : Book) → is_at test b n ≡ true
     → owed_at t (moved_at move n b) + as_one (t == n) ≡ owed_at t b
 owed-left test move moves_on n t b is =
-    ap (λ (o : Option Registration). as_one (tells is_owed o) + as_one (t == n)) (registration_at-moved_where move (λ m. m == n) b t)
+    ap (λ (o : Option Registration). as_one (tells is_owed o) + as_one (t == n)) (registration_at-changed_where (moved move) (λ m. m == n) b t)
     ∙ by (t == n) refl
   where
     at : (o : Option Registration) → tells test o ≡ true
@@ -239,7 +239,7 @@ account-withdrawn : (t : ℕ) (b : Book) (n : ℕ) → is_at is_registered b n �
 account-withdrawn t b n is =
     let less : owed_at t (moved_at made_withdrawn n b) + as_one (t == n) ≡ owed_at t b = owed-left is_registered made_withdrawn withdrawn-leaves n t b is in
     record {
-      given = given-moved made_withdrawn (λ m. m == n) t b ∙ sym (plus (given_at t b));
+      given = given-changed (moved made_withdrawn) (λ m. m == n) t b ∙ sym (plus (given_at t b));
       owed = two (owed_at t (moved_at made_withdrawn n b)) (as_one (t == n)) (owed_at t b) less;
     }
   where
@@ -281,7 +281,7 @@ book-account t addon b _ _ _ (adds r c new who why e) = same-account t b _ None 
 book-account t addon b _ _ _ (drops n c is e) = same-account t b None _ None (moved_at made_withdrawn n b) c e (account-withdrawn t b n is)
 book-account t addon b _ _ _ (collects test c e) =
     same-account t b None None None (due_where test b) c e
-    (kept-account t b (due_where test b) (given-moved made_due test t b) (owed-kept made_due due-keeps test t b))
+    (kept-account t b (due_where test b) (given-changed (moved made_due) test t b) (owed-kept (moved made_due) (λ r. due-keeps r.state) test t b))
 book-account t addon b _ _ _ (swaps n r c is new who why e) =
     let left : Book = moved_at made_withdrawn n b in
     same-account t b _ _ None (with_registration r left) c e
@@ -291,13 +291,17 @@ account : (t : ℕ) (b : Book) (made dropped begun : Option Duty) (c : Book) →
 account t b _ _ _ _ (called addon made dropped c s) = book-account t addon b made dropped c s
 account t b _ _ _ _ (ended n c e) =
     same-account t b None None None (moved_at made_ended n b) c e
-    (kept-account t b (moved_at made_ended n b) (given-moved made_ended (λ m. m == n) t b) (owed-kept made_ended ended-keeps (λ m. m == n) t b))
+    (kept-account t b (moved_at made_ended n b) (given-changed (moved made_ended) (λ m. m == n) t b)
+    (owed-kept (moved made_ended) (λ r. ended-keeps r.state) (λ m. m == n) t b))
 account t b _ _ _ _ (began p n r c there may e) =
     let c' : Book = moved_at (begun_in p) n b in
     let is : is_at (may_begin_in p) b n ≡ true = ap (tells (may_begin_in p)) there ∙ may in
     let less : owed_at t c' + as_one (t == n) ≡ owed_at t b = owed-left (may_begin_in p) (begun_in p) (leaves-in p) n t b is in
     same-account t b None None _ c' c e
-    (record { given = given-moved (begun_in p) (λ m. m == n) t b ∙ none (given_at t b); owed = two (owed_at t c') (as_one (t == n)) (owed_at t b) less })
+    (record {
+      given = given-changed (moved (begun_in p)) (λ m. m == n) t b ∙ none (given_at t b);
+      owed = two (owed_at t c') (as_one (t == n)) (owed_at t b) less;
+    })
   where
     none : (n : ℕ) → n ≡ n + 0
     none n = omega arith
@@ -385,17 +389,17 @@ made-as b n c at longer = subst (λ k. MakesTicket b (Some (ticket_duty k)) c) (
 book-makes : (addon : ℕ) (b : Book) (made dropped : Option Duty) (c : Book) → BookStep addon b made dropped c → MakesTicket b made c
 book-makes addon b _ _ _ (stays c e) = unmade None c refl (ap length e)
 book-makes addon b _ _ _ (adds r c new who why e) = making c (ap length e ∙ length-append b (r ∷ []))
-book-makes addon b _ _ _ (drops n c is e) = unmade None c refl (ap length e ∙ length-moved made_withdrawn (λ m. m == n) b)
-book-makes addon b _ _ _ (collects test c e) = unmade None c refl (ap length e ∙ length-moved made_due test b)
+book-makes addon b _ _ _ (drops n c is e) = unmade None c refl (ap length e ∙ length-changed_where (moved made_withdrawn) (λ m. m == n) b)
+book-makes addon b _ _ _ (collects test c e) = unmade None c refl (ap length e ∙ length-changed_where (moved made_due) test b)
 book-makes addon b _ _ _ (swaps n r c is new who why e) =
     let left : Book = moved_at made_withdrawn n b in
-    let same : length left ≡ length b = length-moved made_withdrawn (λ m. m == n) b in
+    let same : length left ≡ length b = length-changed_where (moved made_withdrawn) (λ m. m == n) b in
     made-as b (new_ticket left) c (ap (λ k. k + 1) same) (ap length e ∙ length-append left (r ∷ []) ∙ ap (λ k. k + 1) same)
 
 step-makes : (b : Book) (made dropped begun : Option Duty) (c : Book) → TicketStep b made dropped begun c → MakesTicket b made c
 step-makes b _ _ _ _ (called addon made dropped c s) = book-makes addon b made dropped c s
-step-makes b _ _ _ _ (began p n r c there may e) = unmade None c refl (ap length e ∙ length-moved (begun_in p) (λ m. m == n) b)
-step-makes b _ _ _ _ (ended n c e) = unmade None c refl (ap length e ∙ length-moved made_ended (λ m. m == n) b)
+step-makes b _ _ _ _ (began p n r c there may e) = unmade None c refl (ap length e ∙ length-changed_where (moved (begun_in p)) (λ m. m == n) b)
+step-makes b _ _ _ _ (ended n c e) = unmade None c refl (ap length e ∙ length-changed_where (moved made_ended) (λ m. m == n) b)
 
 hub-makes : (o : Option Duty) → OfHub o → made_ticket o ≡ []
 hub-makes (Some (duty.Ticket t)) ours = cc

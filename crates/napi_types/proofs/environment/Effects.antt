@@ -10,7 +10,7 @@ use Rattle.napi_types.specs.declared.entry.Out.TheVariants as out
 use Rattle.napi_types.specs.declared.ids.TextNo.{TextNo}
 use Rattle.napi_types.specs.plain.Replies.{Answer, accepts}
 use Rattle.napi_types.specs.parts.Attachments.{Attachments, wrap_payload, wrap_ticket, with_wrap, without_wrap, with_tag, with_attached}
-use Rattle.napi_types.specs.parts.Book.{Book, Registration, cause_at, is_registered, is_at, made_withdrawn, moved_at, new_ticket, with_registration, ticket_duty}
+use Rattle.napi_types.specs.parts.Book.{Book, Registration, cause_at, is_registered, is_at, made_withdrawn, moved, moved_at, new_ticket, with_registration, ticket_duty}
 use Rattle.napi_types.specs.parts.Frames.{caller_of}
 use Rattle.napi_types.specs.parts.Heap.{handle_value}
 use Rattle.napi_types.specs.parts.HeapCalls.{addon_effect}
@@ -29,7 +29,7 @@ use Rattle.napi_types.specs.environment.Registering.{finalizer_of, registering, 
 use Rattle.napi_types.specs.environment.Roots.{reach}
 use Rattle.napi_types.specs.environment.WrapCalls.{with_attachments}
 use Rattle.napi_types.proofs.parts.BookSteps.{BookStep, adds, swaps}
-use Rattle.napi_types.proofs.parts.Books.{length-moved}
+use Rattle.napi_types.proofs.parts.Books.{length-changed_where}
 use Rattle.napi_types.proofs.parts.Moved.{at-cause, registration_at-new}
 
 -- a ticket is that of a finalizer
@@ -165,7 +165,7 @@ effect-of e (call.SetInstanceData payload (Some entry) hint) n =
     (sets i (registers payload entry hint rests (adds _ _ refl refl (λ h. cc) refl)) (new-finalizes e payload entry hint e.book))
     (λ t here is.
     let left : Book = moved_at made_withdrawn t e.book in
-    let same : new_ticket left ≡ new_ticket e.book = ap (λ m. m + 1) (length-moved made_withdrawn (λ m. m == t) e.book) in
+    let same : new_ticket left ≡ new_ticket e.book = ap (λ m. m + 1) (length-changed_where (moved made_withdrawn) (λ m. m == t) e.book) in
     sets i (registers payload entry hint (withdraws t (inr here) is) (swaps t r _ is refl refl (λ h. cc) refl))
     (subst (Finalizes (with_registration r left)) same (new-finalizes e payload entry hint left)))
 effect-of e call.GetInstanceData n = rests

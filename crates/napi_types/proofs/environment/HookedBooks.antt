@@ -11,11 +11,11 @@ use Rattle.napi_types.specs.declared.entry.Cause.TheVariants as cause
 use Rattle.napi_types.specs.declared.entry.Duty.{Duty}
 use Rattle.napi_types.specs.declared.entry.Phase.{Phase}
 use Rattle.napi_types.specs.plain.Lists.{has}
-use Rattle.napi_types.specs.parts.Book.{Book, Registration, TicketState, Registered, Due, Begun, is_registered, is_owed, is_at, made_begun, made_ended, moved_where, moved_at, new_ticket, registration_at, with_registration, TicketsRise, cause_at}
+use Rattle.napi_types.specs.parts.Book.{Book, Registration, TicketState, Registered, Due, Begun, is_registered, is_owed, is_at, made_begun, made_ended, changed_where, moved, moved_at, new_ticket, registration_at, with_registration, TicketsRise, cause_at}
 use Rattle.napi_types.specs.parts.Hooks.{Hook}
 use Rattle.napi_types.specs.environment.Hooked.{is_late, StandsIn}
 use Rattle.napi_types.proofs.plain.Maps.{map-filter}
-use Rattle.napi_types.proofs.parts.Moved.{IsUnder, BeginsFor, under, at-state, at-cause, registration-within, registration_at-before, registration_at-new, registration_at-either, cause_at-moved_where, is_at-moved_where, is_at-before}
+use Rattle.napi_types.proofs.parts.Moved.{IsUnder, BeginsFor, under, at-state, at-cause, registration-within, registration_at-before, registration_at-new, registration_at-either, KeepsCause, cause_at-changed_where, is_at-changed_where, is_at-before}
 use Rattle.napi_types.proofs.environment.FrameChanges.{book_left}
 use Rattle.napi_types.proofs.environment.Registrations.{left-kept}
 
@@ -84,9 +84,10 @@ push-goes p r book other = record { causes = push-causes r book; spares = λ ear
         (λ new. absurd (other (ap (λ (q : Registration). q.cause) new.1 ∙ u.holds)))
         (registration_at-either book r n u.registration u.there)
 
--- TICKETS ARE MOVED
-pub moved-causes : (move : TicketState → TicketState) (test : ℕ → Bool) (book : Book) → KeepsCauses book (moved_where move test book)
-moved-causes move test book n why is = cause_at-moved_where move test book n ∙ is
+-- REGISTRATIONS ARE CHANGED
+pub changed-causes : (change : Registration → Registration) → KeepsCause change → (test : ℕ → Bool) (book : Book)
+    → KeepsCauses book (changed_where change test book)
+changed-causes change keeps test book n why is = cause_at-changed_where change keeps test book n ∙ is
 
 -- what the state of a hook's ticket may become
 record SparesState (stays : Bool) (old new : TicketState) : Type 0 where
@@ -96,47 +97,54 @@ record SparesState (stays : Bool) (old new : TicketState) : Type 0 where
 same-spares : (s : TicketState) → SparesState true s s
 same-spares s = record { registered = λ stays is. is; owed = λ is. (refl, is) }
 
-moved-spares : (stays : ℕ → Bool) (move : TicketState → TicketState) (test : ℕ → Bool) (book : Book)
-    → ((n : ℕ) (r : Registration) → registration_at book n ≡ Some r → r.cause ≡ cause.Hook → SparesState (stays n) r.state (cond (test n) (move r.state) r.state))
-    → SparesHooks stays book (moved_where move test book)
-moved-spares stays move test book each = record { registered = registered; owed = owed }
+changed-spares : (stays : ℕ → Bool) (change : Registration → Registration) → KeepsCause change → (test : ℕ → Bool) (book : Book)
+    → ((n : ℕ) (r : Registration) → registration_at book n ≡ Some r → r.cause ≡ cause.Hook → SparesState (stays n) r.state (cond (test n) (change r) r).state)
+    → SparesHooks stays book (changed_where change test book)
+changed-spares stays change keeps test book each = record { registered = registered; owed = owed }
   where
-    registered : (n : ℕ) → stays n ≡ true → cause_at book n ≡ Some cause.Hook → is_at is_registered book n ≡ true → is_at is_registered (moved_where move test book) n ≡ true
+    registered : (n : ℕ) → stays n ≡ true → cause_at book n ≡ Some cause.Hook → is_at is_registered book n ≡ true
+        → is_at is_registered (changed_where change test book) n ≡ true
     registered n passes hook is =
         let u : IsUnder (BeginsFor cause.Hook) book n = under book n cause.Hook hook in
-        is_at-moved_where is_registered move test book n u.registration u.there
+        is_at-changed_where is_registered change test book n u.registration u.there
         ∙ (each n u.registration u.there u.holds).registered passes (sym (at-state is_registered book n u.registration u.there) ∙ is)
 
-    owed : (n : ℕ) → cause_at (moved_where move test book) n ≡ Some cause.Hook → is_at is_owed (moved_where move test book) n ≡ true
+    owed : (n : ℕ) → cause_at (changed_where change test book) n ≡ Some cause.Hook → is_at is_owed (changed_where change test book) n ≡ true
         → (stays n ≡ true) × (cause_at book n ≡ Some cause.Hook) × (is_at is_owed book n ≡ true)
     owed n hook is =
-        let was : cause_at book n ≡ Some cause.Hook = sym (cause_at-moved_where move test book n) ∙ hook in
+        let was : cause_at book n ≡ Some cause.Hook = sym (cause_at-changed_where change keeps test book n) ∙ hook in
         let u : IsUnder (BeginsFor cause.Hook) book n = under book n cause.Hook was in
-        let kept = (each n u.registration u.there u.holds).owed (sym (is_at-moved_where is_owed move test book n u.registration u.there) ∙ is) in
+        let kept = (each n u.registration u.there u.holds).owed (sym (is_at-changed_where is_owed change test book n u.registration u.there) ∙ is) in
         (kept.0, was, at-state is_owed book n u.registration u.there ∙ kept.1)
 
--- a move of finalizers alone
-pub finalizers-go : (p : Phase) (move : TicketState → TicketState) (test : ℕ → Bool) (book : Book) → ((n : ℕ) → test n ≡ true → cause_at book n ≡ Some cause.Finalize)
-    → BookGoes p every_ticket book (moved_where move test book)
-finalizers-go p move test book finalizers = record { causes = moved-causes move test book; spares = λ early. moved-spares every_ticket move test book each }
+-- a change of finalizers alone
+pub finalizers-go : (p : Phase) (change : Registration → Registration) → KeepsCause change → (test : ℕ → Bool) (book : Book)
+    → ((n : ℕ) → test n ≡ true → cause_at book n ≡ Some cause.Finalize) → BookGoes p every_ticket book (changed_where change test book)
+finalizers-go p change keeps test book finalizers =
+    record { causes = changed-causes change keeps test book; spares = λ early. changed-spares every_ticket change keeps test book each }
   where
-    each : (n : ℕ) (r : Registration) → registration_at book n ≡ Some r → r.cause ≡ cause.Hook → SparesState true r.state (cond (test n) (move r.state) r.state)
+    each : (n : ℕ) (r : Registration) → registration_at book n ≡ Some r → r.cause ≡ cause.Hook → SparesState true r.state (cond (test n) (change r) r).state
     each n r there hook = by (test n) (finalizers n)
       where
-        by : (b : Bool) → (b ≡ true → cause_at book n ≡ Some cause.Finalize) → SparesState true r.state (cond b (move r.state) r.state)
+        by : (b : Bool) → (b ≡ true → cause_at book n ≡ Some cause.Finalize) → SparesState true r.state (cond b (change r) r).state
         by true finalizer =
             let both : Some cause.Hook ≡ Some cause.Finalize = sym (at-cause book n r there ∙ ap Some hook) ∙ finalizer refl in
             let no : ⊥ = cc in
             absurd no
         by false finalizer = same-spares r.state
 
--- a move that leaves what is registered, and brings nothing to be due
-calm-goes : (p : Phase) (move : TicketState → TicketState) (test : ℕ → Bool) (book : Book) → ((s : TicketState) → SparesState true s (move s)) → BookGoes p every_ticket book (moved_where move test book)
-calm-goes p move test book calm = record { causes = moved-causes move test book; spares = λ early. moved-spares every_ticket move test book (λ n r there hook. by (test n) r.state) }
+-- a change that leaves what is registered, and brings nothing to be due
+calm-goes : (p : Phase) (change : Registration → Registration) → KeepsCause change → (test : ℕ → Bool) (book : Book)
+    → ((r : Registration) → SparesState true r.state (change r).state) → BookGoes p every_ticket book (changed_where change test book)
+calm-goes p change keeps test book calm =
+    record {
+      causes = changed-causes change keeps test book;
+      spares = λ early. changed-spares every_ticket change keeps test book (λ n r there hook. by (test n) r);
+    }
   where
-    by : (b : Bool) (s : TicketState) → SparesState true s (cond b (move s) s)
-    by true s = calm s
-    by false s = same-spares s
+    by : (b : Bool) (r : Registration) → SparesState true r.state (cond b (change r) r).state
+    by true r = calm r
+    by false r = same-spares r.state
 
 ended-calm : (s : TicketState) → SparesState true s (made_ended s)
 ended-calm Begun = record { registered = λ stays is. cc; owed = λ is. cc }
@@ -147,21 +155,28 @@ begun-calm Due = record { registered = λ stays is. cc; owed = λ is. cc }
 begun-calm s = same-spares s
 
 pub begun-goes : (p : Phase) (n : ℕ) (book : Book) → BookGoes p every_ticket book (moved_at made_begun n book)
-begun-goes p n book = calm-goes p made_begun (λ m. m == n) book begun-calm
+begun-goes p n book = calm-goes p (moved made_begun) (λ r. refl) (λ m. m == n) book (λ r. begun-calm r.state)
 
 -- the end of a frame
 pub left-goes : (p : Phase) (c : Cause) (d : Option Duty) (book : Book) → BookGoes p every_ticket book (book_left c d book)
-left-goes p c d book = left-kept (BookGoes p every_ticket book) book (λ t. calm-goes p made_ended (λ m. m == t) book ended-calm) c d (goes-nowhere p book)
+left-goes p c d book =
+    left-kept (BookGoes p every_ticket book) book (λ t. calm-goes p (moved made_ended) (λ r. refl) (λ m. m == t) book (λ r. ended-calm r.state)) c d
+    (goes-nowhere p book)
 
 -- one ticket is moved, and is no longer registered or due
 pub ticket-goes : (p : Phase) (move : TicketState → TicketState) (t : ℕ) (book : Book) → ((r : Registration) → registration_at book t ≡ Some r → is_owed (move r.state) ≡ false)
     → BookGoes p (all_but_ticket t) book (moved_at move t book)
-ticket-goes p move t book gone = record { causes = moved-causes move (λ m. m == t) book; spares = λ early. moved-spares (all_but_ticket t) move (λ m. m == t) book each }
+ticket-goes p move t book gone =
+    record {
+      causes = changed-causes (moved move) (λ r. refl) (λ m. m == t) book;
+      spares = λ early. changed-spares (all_but_ticket t) (moved move) (λ r. refl) (λ m. m == t) book each;
+    }
   where
-    each : (n : ℕ) (r : Registration) → registration_at book n ≡ Some r → r.cause ≡ cause.Hook → SparesState (not (n == t)) r.state (cond (n == t) (move r.state) r.state)
+    each : (n : ℕ) (r : Registration) → registration_at book n ≡ Some r → r.cause ≡ cause.Hook
+        → SparesState (not (n == t)) r.state (cond (n == t) (moved move r) r).state
     each n r there hook = by (n == t) (λ same. gone r (ap (registration_at book) (sym (eqb-true n t same)) ∙ there))
       where
-        by : (b : Bool) → (b ≡ true → is_owed (move r.state) ≡ false) → SparesState (not b) r.state (cond b (move r.state) r.state)
+        by : (b : Bool) → (b ≡ true → is_owed (move r.state) ≡ false) → SparesState (not b) r.state (cond b (moved move r) r).state
         by true not_owed = record { registered = λ stays is. cc; owed = λ is. let no : true ≡ false = sym is ∙ not_owed refl in cc }
         by false not_owed = same-spares r.state
 

@@ -18,7 +18,7 @@ use Rattle.napi_types.specs.declared.ids.HandleId.{HandleId}
 use Rattle.napi_types.specs.plain.Phases.{next_phase}
 use Rattle.napi_types.specs.plain.Replies.{accepts}
 use Rattle.napi_types.specs.parts.Attachments.{Attachments, hangs_on, left_on}
-use Rattle.napi_types.specs.parts.Book.{Book, Registration, registration_at, is_at, is_registered, is_owed, made_due, made_withdrawn, moved_at, due_where, new_ticket, with_registration, begun_in, may_begin_in, cause_at}
+use Rattle.napi_types.specs.parts.Book.{Book, Registration, registration_at, is_at, is_registered, is_owed, made_due, made_withdrawn, moved, moved_at, due_where, new_ticket, with_registration, begun_in, may_begin_in, cause_at}
 use Rattle.napi_types.specs.parts.Frames.{caller_of, cause_of, duty_of}
 use Rattle.napi_types.specs.parts.Hooks.{Hook, is_hook, hook_ticket, last_hook, without_hook}
 use Rattle.napi_types.specs.parts.InstanceData.{InstanceData, Instances, instance_ticket}
@@ -41,7 +41,7 @@ use Rattle.napi_types.proofs.environment.Answers.{course-parts}
 use Rattle.napi_types.proofs.environment.Effects as does
 use Rattle.napi_types.proofs.environment.Effects.{Finalizes, HangsOn, Attaches, Effect, effect-of}
 use Rattle.napi_types.proofs.environment.FrameChanges.{hangings_of, hangings-parts, SameHangings, book_left, KeepsButFrame, ended-keeps, KeepsAndEnters, enter_change-keeps}
-use Rattle.napi_types.proofs.environment.HookedBooks.{KeepsCauses, BookGoes, every_ticket, all_but_ticket, HooksAgree, goes-nowhere, late-goes, push-goes, push-causes, moved-causes, finalizers-go, begun-goes, left-goes, ticket-goes, listed-goes, listed-push, listed-within}
+use Rattle.napi_types.proofs.environment.HookedBooks.{KeepsCauses, BookGoes, every_ticket, all_but_ticket, HooksAgree, goes-nowhere, late-goes, push-goes, push-causes, changed-causes, finalizers-go, begun-goes, left-goes, ticket-goes, listed-goes, listed-push, listed-within}
 use Rattle.napi_types.proofs.environment.Cases.{answer-by, asked-by}
 
 -- FINALIZERS
@@ -117,7 +117,8 @@ withdrawn e t = record e { book = moved_at made_withdrawn t e.book }
 
 hooked-withdrawn : (e : Environment) (t : ℕ) → Finalizes e.book t → IsHooked e → IsHooked (withdrawn e t)
 hooked-withdrawn e t is h =
-    hooked-book e _ (finalizers-go e.phase made_withdrawn (λ m. m == t) e.book (λ n same. subst (Finalizes e.book) (sym (eqb-true n t same)) is)) h
+    hooked-book e _
+    (finalizers-go e.phase (moved made_withdrawn) (λ r. refl) (λ m. m == t) e.book (λ n same. subst (Finalizes e.book) (sym (eqb-true n t same)) is)) h
 
 -- THE CALLS ON HOOKS
 hooking-hooked : (e : Environment) (addon entry argument : ℕ) → IsHooked e → IsHooked (hooking e addon entry argument).after
@@ -170,7 +171,7 @@ collected-hooked e alive h =
     let freed : ℕ → Bool = is_freed alive in
     let due : Environment = record e { book = due_where (hangs_on freed e.attachments) e.book } in
     let finalizers : (n : ℕ) → hangs_on freed e.attachments n ≡ true → Finalizes e.book n = tickets_where-holds (Finalizes e.book) e.attachments (attached e h) freed in
-    let fallen : IsHooked due = hooked-book e _ (finalizers-go e.phase made_due (hangs_on freed e.attachments) e.book finalizers) h in
+    let fallen : IsHooked due = hooked-book e _ (finalizers-go e.phase (moved made_due) (λ r. refl) (hangs_on freed e.attachments) e.book finalizers) h in
     unchanged _ (collected alive e) refl refl
     (hooked-attachments due (left_on freed e.attachments) (HoldsAttached-left_on (Finalizes due.book) freed e.attachments (attached due fallen)) fallen)
 
@@ -247,7 +248,8 @@ pub hooked-begun : (n : ℕ) (r : Registration) (e : Environment) → registrati
 hooked-begun n r e there may h = unchanged _ (ticket_change n r e).after refl refl (begun-hooked e.phase n r e there may h)
 
 phase-goes : (p : Phase) (book : Book) → BookGoes p every_ticket book (book_in p book)
-phase-goes phase.Finals book = late-goes phase.Finals every_ticket book (book_in phase.Finals book) (λ early. cc) (moved-causes made_due (λ n. true) book)
+phase-goes phase.Finals book =
+    late-goes phase.Finals every_ticket book (book_in phase.Finals book) (λ early. cc) (changed-causes (moved made_due) (λ r. refl) (λ n. true) book)
 phase-goes p book = goes-nowhere p book
 
 sooner : (q p : Phase) → next_phase q ≡ Some p → is_late p ≡ false → is_late q ≡ false

@@ -7,7 +7,7 @@ use Rattle.napi_types.specs.declared.status.Status.{Status}
 use Rattle.napi_types.specs.plain.DutyCalls.{makes_duty}
 use Rattle.napi_types.specs.plain.Guards.{is_shared}
 use Rattle.napi_types.specs.plain.Replies.{Answer}
-use Rattle.napi_types.specs.parts.Book.{made_withdrawn, new_ticket, ticket_duty}
+use Rattle.napi_types.specs.parts.Book.{made_withdrawn, moved, new_ticket, ticket_duty}
 use Rattle.napi_types.specs.parts.Frames.{caller_of}
 use Rattle.napi_types.specs.parts.InstanceData.{instance_ticket}
 use Rattle.napi_types.specs.environment.Calls.{effect, answer_unless_deep}
@@ -15,7 +15,7 @@ use Rattle.napi_types.specs.environment.Environment.{Environment}
 use Rattle.napi_types.specs.environment.MadeTickets.{UnrefusedCallsMakeTheirTicket}
 use Rattle.napi_types.specs.environment.Refusals.{early_refusal, depth_refusal}
 use Rattle.napi_types.specs.environment.Registering.{registered_only, withdrawing}
-use Rattle.napi_types.proofs.parts.Books.{length-moved}
+use Rattle.napi_types.proofs.parts.Books.{length-changed_where}
 
 -- a call that nothing refuses has its effect
 has-effect : (e : Environment) (c : Call) (n : ℕ) (early deep : Option Status) → option_or early deep ≡ None → answer_unless_deep e c n early deep ≡ effect e c n
@@ -26,7 +26,7 @@ has-effect e c n None (Some s) none = cc
 -- one that withdraws keeps how many tickets there are
 withdrawn-ticket : (t : Option ℕ) (a : Answer Environment) → new_ticket (withdrawing t a).after.book ≡ new_ticket a.after.book
 withdrawn-ticket None a = refl
-withdrawn-ticket (Some n) a = ap (λ k. k + 1) (length-moved made_withdrawn (λ m. m == n) a.after.book)
+withdrawn-ticket (Some n) a = ap (λ k. k + 1) (length-changed_where (moved made_withdrawn) (λ m. m == n) a.after.book)
 
 makes-ticket : (e : Environment) (c : Call) (n : ℕ) → makes_duty c ≡ true → is_shared c ≡ false → (effect e c n).reply.made ≡ Some (ticket_duty (new_ticket e.book))
 makes-ticket e (call.Wrap v payload (Some entry) hint false) n makes local = refl

@@ -13,7 +13,7 @@ use Rattle.napi_types.specs.declared.entry.Phase.TheVariants as phase
 use Rattle.napi_types.specs.declared.entry.Reply.{Reply}
 use Rattle.napi_types.specs.declared.entry.Why.{Why}
 use Rattle.napi_types.specs.declared.ids.HandleId.{HandleId}
-use Rattle.napi_types.specs.parts.Book.{Book, Registration, is_registered, made_due, made_withdrawn, made_ended, moved_at, registration_at, begun_in, owed_tickets, with_registration, made_begun}
+use Rattle.napi_types.specs.parts.Book.{Book, Registration, is_registered, made_due, made_withdrawn, made_ended, moved, moved_at, registration_at, begun_in, owed_tickets, with_registration, made_begun}
 use Rattle.napi_types.specs.parts.Frames.{caller_of, cause_of, duty_of}
 use Rattle.napi_types.specs.environment.Calls.{answer}
 use Rattle.napi_types.specs.environment.Changes.{call_change, book_in}
@@ -24,7 +24,7 @@ use Rattle.napi_types.specs.environment.Moments.{is_tearing}
 use Rattle.napi_types.proofs.plain.Lists.{none-there}
 use Rattle.napi_types.proofs.parts.BookSteps.{BookStep, stays, adds, drops, collects, swaps}
 use Rattle.napi_types.proofs.parts.Books.{NoneRegistered, owed-due_where}
-use Rattle.napi_types.proofs.parts.Moves.{Falls, Withdraws, Begins, Ends, unregistered-moved, MovesKeep, each-kept, moved-both}
+use Rattle.napi_types.proofs.parts.Moves.{Falls, Withdraws, Begins, Ends, unregistered-moved, MovesKeep, each-kept, changed_where-both}
 use Rattle.napi_types.proofs.environment.Answers.{call_change-keeps, torn-makes-none}
 use Rattle.napi_types.proofs.environment.FrameChanges.{book_left, hangings-parts, ended-keeps, enter_change-keeps}
 use Rattle.napi_types.proofs.environment.Cases.{asked-by}
@@ -75,7 +75,9 @@ module _ (Q : Book → Type 0) (kept : MovesKeep Q) where
       same-book _ _ (ended-keeps v cut e).book (left-kept Q e.book (λ t. kept Ends (λ m. m == t) e.book q) (cause_of e.frames) (duty_of e.frames) q)
 
   pub begun-kept : (p : Phase) (n : ℕ) (b : Book) → Q b → Q (moved_at (begun_in p) n b)
-  begun-kept phase.Hooks n b q = subst Q (moved-both made_due made_begun (λ m. m == n) b) (kept Begins (λ m. m == n) _ (kept Falls (λ m. m == n) b q))
+  begun-kept phase.Hooks n b q =
+      subst Q (changed_where-both (moved made_due) (moved made_begun) (λ m. m == n) b)
+      (kept Begins (λ m. m == n) _ (kept Falls (λ m. m == n) b q))
   begun-kept _ n b q = kept Begins (λ m. m == n) b q
 
   pub phase-kept : (p : Phase) (b : Book) → Q b → Q (book_in p b)

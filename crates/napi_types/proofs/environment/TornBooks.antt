@@ -5,30 +5,30 @@ use Rattle.std.proofs.lemmas.Bool.{cases_lt, cases_eq}
 use Rattle.napi_types.specs.declared.call.Call.{Call}
 use Rattle.napi_types.specs.declared.entry.Cause.{Cause}
 use Rattle.napi_types.specs.declared.entry.Duty.{Duty}
-use Rattle.napi_types.specs.parts.Book.{Book, Registration, TicketState, Due, is_registered, is_due, is_at, made_begun, moved, moved_where, moved_at, registration_at, lowest_due, cause_at}
+use Rattle.napi_types.specs.parts.Book.{Book, Registration, TicketState, Due, is_registered, is_due, is_at, made_begun, changed_where, moved, moved_at, registration_at, lowest_due, cause_at}
 use Rattle.napi_types.specs.environment.Entering.{asked_change}
 use Rattle.napi_types.specs.environment.Environment.{Environment}
 use Rattle.napi_types.specs.environment.Moments.{is_tearing}
 use Rattle.napi_types.proofs.plain.Found.{same-self, next-above}
 use Rattle.napi_types.proofs.parts.Books.{NoneRegistered, lowest-below}
-use Rattle.napi_types.proofs.parts.Moved.{registration_at-moved_where, cause_at-moved_where}
+use Rattle.napi_types.proofs.parts.Moved.{registration_at-changed_where, cause_at-changed_where}
 use Rattle.napi_types.proofs.parts.Moves.{Begins, Ends, next, registered-before, due-moved, MovesKeep}
 use Rattle.napi_types.proofs.environment.FrameChanges.{book_left}
 use Rattle.napi_types.proofs.environment.Registrations.{registered-holds, none-kept, torn-new, asked-kept, left-kept}
 
--- A MOVE
+-- A CHANGE
 -- whether what is under a ticket passes a test
 abbrev pub tells : (TicketState → Bool) → Option Registration → Bool
 tells test o = unwrap_or (option_map (λ r. test r.state) o) false
 
--- a ticket that passes a test was so before, if the move brings what is under it to no such state
-was-at : (is : TicketState → Bool) (move : TicketState → TicketState) (test : ℕ → Bool) (book : Book) (n : ℕ)
-    → ((r : Registration) → registration_at book n ≡ Some r → is (move r.state) ≡ true → is r.state ≡ true)
-    → is_at is (moved_where move test book) n ≡ true → is_at is book n ≡ true
-was-at is move test book n back now = by (test n) (registration_at book n) back (sym (ap (tells is) (registration_at-moved_where move test book n)) ∙ now)
+-- a ticket that passes a test was so before, if the change brings what is under it to no such state
+was-at : (is : TicketState → Bool) (change : Registration → Registration) (test : ℕ → Bool) (book : Book) (n : ℕ)
+    → ((r : Registration) → registration_at book n ≡ Some r → is (change r).state ≡ true → is r.state ≡ true)
+    → is_at is (changed_where change test book) n ≡ true → is_at is book n ≡ true
+was-at is change test book n back now = by (test n) (registration_at book n) back (sym (ap (tells is) (registration_at-changed_where change test book n)) ∙ now)
   where
-    by : (b : Bool) (o : Option Registration) → ((r : Registration) → o ≡ Some r → is (move r.state) ≡ true → is r.state ≡ true)
-        → tells is (option_map (λ r. cond b (moved move r) r) o) ≡ true → tells is o ≡ true
+    by : (b : Bool) (o : Option Registration) → ((r : Registration) → o ≡ Some r → is (change r).state ≡ true → is r.state ≡ true)
+        → tells is (option_map (λ r. cond b (change r) r) o) ≡ true → tells is o ≡ true
     by b None back now = now
     by true (Some r) back now = back r refl now
     by false (Some r) back now = now
@@ -46,12 +46,12 @@ none-more book = record { causes = λ n. refl; registered = λ n h. h; none = λ
 -- every move leads to such a book
 more-kept : (old : Book) → MovesKeep (NoneMore old)
 more-kept old move test book more = record {
-  causes = λ n. cause_at-moved_where (next move) test book n ∙ more.causes n;
-  registered = λ n is. more.registered n (was-at is_registered (next move) test book n (λ r there. registered-before move r.state) is);
+  causes = λ n. cause_at-changed_where (moved (next move)) (λ r. refl) test book n ∙ more.causes n;
+  registered = λ n is. more.registered n (was-at is_registered (moved (next move)) test book n (λ r there. registered-before move r.state) is);
   none = λ none. none-kept move test book (more.none none);
   due = λ none n is.
       more.due none n
-      (was-at is_due (next move) test book n
+      (was-at is_due (moved (next move)) test book n
       (λ r there. due-moved move r.state (registered-holds (λ q. is_registered q.state ≡ false) n book r there (more.none none))) is);
 }
 
@@ -68,7 +68,7 @@ left-more c d book = left-kept (NoneMore book) book (λ t. more-kept book Ends (
 -- THE LOWEST TICKET BEGINS
 -- it is not due any more
 not-due : (n : ℕ) (book : Book) → is_at is_due (moved_at made_begun n book) n ≡ false
-not-due n book = ap (tells is_due) (registration_at-moved_where made_begun (λ m. m == n) book n) ∙ by (n == n) (same-self n) (registration_at book n)
+not-due n book = ap (tells is_due) (registration_at-changed_where (moved made_begun) (λ m. m == n) book n) ∙ by (n == n) (same-self n) (registration_at book n)
   where
     begins : (s : TicketState) → is_due (made_begun s) ≡ false
     begins Due = refl

@@ -3,8 +3,8 @@ use Rattle.std.proofs.Common.{◌≡◌, ◌≢◌, ◌≤◌, ℕ, ◌+◌, ◌
 use Rattle.napi_types.specs.declared.entry.Cause.TheVariants as cause
 use Rattle.napi_types.specs.declared.entry.Duty.{Duty}
 use Rattle.napi_types.specs.plain.Room.{one_if}
-use Rattle.napi_types.specs.parts.Book.{Book, Registration, Registered, is_registered, is_at, made_due, made_withdrawn, moved_at, due_where, owed_tickets, ticket_duty, new_ticket, with_registration}
-use Rattle.napi_types.proofs.parts.Books.{owed-registered, owed-withdrawn, owed-due_where, length-moved}
+use Rattle.napi_types.specs.parts.Book.{Book, Registration, Registered, is_registered, is_at, made_due, made_withdrawn, moved, moved_at, due_where, owed_tickets, ticket_duty, new_ticket, with_registration}
+use Rattle.napi_types.proofs.parts.Books.{owed-registered, owed-withdrawn, owed-due_where, length-changed_where}
 
 -- from a book, with the duties that a call of this addon makes and withdraws, to a book
 pub data BookStep (addon : ℕ) (b : Book) : Option Duty → Option Duty → Book → Type 0 where
@@ -31,8 +31,8 @@ step-owed addon b _ _ _ (swaps n r c h s who why e) =
 pub step-length : (addon : ℕ) (b : Book) (made dropped : Option Duty) (c : Book) → BookStep addon b made dropped c → length c ≤ length b + 1
 step-length addon b _ _ _ (stays c e) = omega (arith, ap length e)
 step-length addon b _ _ _ (adds r c s who why e) = omega (arith, ap length e, length-append b (r ∷ []))
-step-length addon b _ _ _ (drops n c h e) = omega (arith, ap length e, length-moved made_withdrawn (λ m. m == n) b)
-step-length addon b _ _ _ (collects test c e) = omega (arith, ap length e, length-moved made_due test b)
+step-length addon b _ _ _ (drops n c h e) = omega (arith, ap length e, length-changed_where (moved made_withdrawn) (λ m. m == n) b)
+step-length addon b _ _ _ (collects test c e) = omega (arith, ap length e, length-changed_where (moved made_due) test b)
 step-length addon b _ _ _ (swaps n r c h s who why e) =
     let left : Book = moved_at made_withdrawn n b in
-    omega (arith, ap length e, length-append left (r ∷ []), length-moved made_withdrawn (λ m. m == n) b)
+    omega (arith, ap length e, length-append left (r ∷ []), length-changed_where (moved made_withdrawn) (λ m. m == n) b)

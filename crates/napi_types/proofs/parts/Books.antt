@@ -9,7 +9,7 @@ use Rattle.napi_types.specs.declared.entry.Phase.{Phase}
 use Rattle.napi_types.specs.declared.entry.Phase.TheVariants as phase
 use Rattle.napi_types.specs.plain.Lists.{has_number, up_to}
 use Rattle.napi_types.specs.plain.Room.{one_if}
-use Rattle.napi_types.specs.parts.Book.{Book, Registration, TicketState, Registered, Due, is_registered, is_due, is_owed, is_at, made_due, made_withdrawn, made_begun, made_due_and_begun, made_ended, moved, moved_from, moved_where, moved_at, due_where, all_due, registration_at, lowest_due, owed_tickets, with_registration, begun_in, may_begin_in}
+use Rattle.napi_types.specs.parts.Book.{Book, Registration, TicketState, Registered, Due, is_registered, is_due, is_owed, is_at, made_due, made_withdrawn, made_begun, made_due_and_begun, made_ended, changed_from, changed_where, moved, moved_at, due_where, all_due, registration_at, lowest_due, owed_tickets, with_registration, begun_in, may_begin_in}
 use Rattle.napi_types.proofs.plain.Issued.{has-up_to}
 use Rattle.napi_types.proofs.plain.Found.{apart-below, apart-above}
 use Rattle.napi_types.proofs.plain.Lists.{find-passes, find-first}
@@ -31,9 +31,10 @@ owed-registered r (q ∷ book) new =
     let now : owed_tickets (q ∷ book) ≡ one_if (is_owed q.state) + owed_tickets book = owed-cons q book in
     omega (arith, later, before, now)
 
--- MOVES THAT KEEP IT
-abbrev KeepsOwed : (TicketState → TicketState) → Type 0
-KeepsOwed move = (s : TicketState) → is_owed (move s) ≡ is_owed s
+-- CHANGES THAT KEEP IT
+-- a change of a registration that keeps whether its frame is to come
+abbrev KeepsOwed : (Registration → Registration) → Type 0
+KeepsOwed change = (r : Registration) → is_owed (change r).state ≡ is_owed r.state
 
 pub due-keeps : (s : TicketState) → is_owed (made_due s) ≡ is_owed s
 due-keeps Registered = refl
@@ -43,56 +44,59 @@ pub ended-keeps : (s : TicketState) → is_owed (made_ended s) ≡ is_owed s
 ended-keeps Registered = refl
 ended-keeps _ = refl
 
-moved-state : (move : TicketState → TicketState) → KeepsOwed move → (b : Bool) (r : Registration) → is_owed (cond b (moved move r) r).state ≡ is_owed r.state
-moved-state move keeps true r = keeps r.state
-moved-state move keeps false r = refl
+changed-state : (change : Registration → Registration) → KeepsOwed change → (b : Bool) (r : Registration)
+    → is_owed (cond b (change r) r).state ≡ is_owed r.state
+changed-state change keeps true r = keeps r
+changed-state change keeps false r = refl
 
-moved_from-keeps : (move : TicketState → TicketState) → KeepsOwed move → (test : ℕ → Bool) (k : ℕ) (rs : Book) → owed_tickets (moved_from k move test rs) ≡ owed_tickets rs
-moved_from-keeps move keeps test k [] = refl
-moved_from-keeps move keeps test k (r ∷ rs) =
-    let first : Registration = cond (test k) (moved move r) r in
-    owed-cons first (moved_from (suc k) move test rs)
-    ∙ ap (λ b. one_if b + owed_tickets (moved_from (suc k) move test rs)) (moved-state move keeps (test k) r)
-    ∙ ap (λ n. one_if (is_owed r.state) + n) (moved_from-keeps move keeps test (suc k) rs)
+changed_from-keeps : (change : Registration → Registration) → KeepsOwed change → (test : ℕ → Bool) (k : ℕ) (rs : Book)
+    → owed_tickets (changed_from k change test rs) ≡ owed_tickets rs
+changed_from-keeps change keeps test k [] = refl
+changed_from-keeps change keeps test k (r ∷ rs) =
+    let first : Registration = cond (test k) (change r) r in
+    owed-cons first (changed_from (suc k) change test rs)
+    ∙ ap (λ b. one_if b + owed_tickets (changed_from (suc k) change test rs)) (changed-state change keeps (test k) r)
+    ∙ ap (λ n. one_if (is_owed r.state) + n) (changed_from-keeps change keeps test (suc k) rs)
     ∙ sym (owed-cons r rs)
 
 pub owed-due_where : (test : ℕ → Bool) (book : Book) → owed_tickets (due_where test book) ≡ owed_tickets book
-owed-due_where test book = moved_from-keeps made_due due-keeps test 1 book
+owed-due_where test book = changed_from-keeps (moved made_due) (λ r. due-keeps r.state) test 1 book
 
 pub owed-ended : (n : ℕ) (book : Book) → owed_tickets (moved_at made_ended n book) ≡ owed_tickets book
-owed-ended n book = moved_from-keeps made_ended ended-keeps (λ m. m == n) 1 book
+owed-ended n book = changed_from-keeps (moved made_ended) (λ r. ended-keeps r.state) (λ m. m == n) 1 book
 
 -- MOVES THAT TAKE ONE AWAY
-pub moved_from-below : (move : TicketState → TicketState) (k n : ℕ) (rs : Book) → n < k → moved_from k move (λ m. m == n) rs ≡ rs
-moved_from-below move k n [] h = refl
-moved_from-below move k n (r ∷ rs) h = rw (apart-above n k h) (ap (λ qs. r ∷ qs) (moved_from-below move (suc k) n rs (omega arith)))
+-- where a ticket below them is changed, they stay
+pub changed_from-below : (change : Registration → Registration) (k n : ℕ) (rs : Book) → n < k → changed_from k change (λ m. m == n) rs ≡ rs
+changed_from-below change k n [] h = refl
+changed_from-below change k n (r ∷ rs) h = rw (apart-above n k h) (ap (λ qs. r ∷ qs) (changed_from-below change (suc k) n rs (omega arith)))
 
 -- a state that passes the test is one before whose frame it stands, and the move takes it from there
 pub record Leaves (test : TicketState → Bool) (move : TicketState → TicketState) : Type 0 where
   pub before : (s : TicketState) → test s ≡ true → is_owed s ≡ true
   pub after : (s : TicketState) → test s ≡ true → is_owed (move s) ≡ false
 
-moved_from-leaves : (test : TicketState → Bool) (move : TicketState → TicketState) → Leaves test move → (k p n : ℕ) (rs : Book) (r : Registration)
-    → n ≡ k + p → slice_get rs p ≡ Some r → test r.state ≡ true → owed_tickets (moved_from k move (λ m. m == n) rs) + 1 ≡ owed_tickets rs
-moved_from-leaves test move leaves k p n [] r at here is = let no : ⊥ = cc in absurd no
-moved_from-leaves test move leaves k zero n (q ∷ rs) r at here is =
+changed_from-leaves : (test : TicketState → Bool) (move : TicketState → TicketState) → Leaves test move → (k p n : ℕ) (rs : Book) (r : Registration)
+    → n ≡ k + p → slice_get rs p ≡ Some r → test r.state ≡ true → owed_tickets (changed_from k (moved move) (λ m. m == n) rs) + 1 ≡ owed_tickets rs
+changed_from-leaves test move leaves k p n [] r at here is = let no : ⊥ = cc in absurd no
+changed_from-leaves test move leaves k zero n (q ∷ rs) r at here is =
     let same : q ≡ r = cc in
     let here_is : test q.state ≡ true = ap (λ (x : Registration). test x.state) same ∙ is in
     let stands : owed_tickets (q ∷ rs) ≡ 1 + owed_tickets rs = owed-cons q rs ∙ ap (λ b. one_if b + owed_tickets rs) (leaves.before q.state here_is) in
     let gone : owed_tickets (moved move q ∷ rs) ≡ 0 + owed_tickets rs = owed-cons (moved move q) rs ∙ ap (λ b. one_if b + owed_tickets rs) (leaves.after q.state here_is) in
-    rw (eq-eqb k n (omega arith), moved_from-below move (suc k) n rs (omega arith)) (omega (arith, stands, gone))
-moved_from-leaves test move leaves k (suc p) n (q ∷ rs) r at here is =
-    let later : owed_tickets (moved_from (suc k) move (λ m. m == n) rs) + 1 ≡ owed_tickets rs = moved_from-leaves test move leaves (suc k) p n rs r (omega arith) here is in
+    rw (eq-eqb k n (omega arith), changed_from-below (moved move) (suc k) n rs (omega arith)) (omega (arith, stands, gone))
+changed_from-leaves test move leaves k (suc p) n (q ∷ rs) r at here is =
+    let left : Book = changed_from (suc k) (moved move) (λ m. m == n) rs in
+    let later : owed_tickets left + 1 ≡ owed_tickets rs = changed_from-leaves test move leaves (suc k) p n rs r (omega arith) here is in
     let now : owed_tickets (q ∷ rs) ≡ one_if (is_owed q.state) + owed_tickets rs = owed-cons q rs in
-    let then : owed_tickets (q ∷ moved_from (suc k) move (λ m. m == n) rs) ≡ one_if (is_owed q.state) + owed_tickets (moved_from (suc k) move (λ m. m == n) rs) =
-    owed-cons q (moved_from (suc k) move (λ m. m == n) rs) in
+    let then : owed_tickets (q ∷ left) ≡ one_if (is_owed q.state) + owed_tickets left = owed-cons q left in
     rw (apart-below k n (omega arith)) (omega (arith, later, now, then))
 
 moved_at-leaves : (test : TicketState → Bool) (move : TicketState → TicketState) → Leaves test move → (n : ℕ) (book : Book) (o : Option Registration)
     → registration_at book n ≡ o → unwrap_or (option_map (λ (r : Registration). test r.state) o) false ≡ true → owed_tickets (moved_at move n book) + 1 ≡ owed_tickets book
 moved_at-leaves test move leaves n book None there is = let no : ⊥ = cc in absurd no
 moved_at-leaves test move leaves zero book (Some r) there is = let no : ⊥ = cc in absurd no
-moved_at-leaves test move leaves (suc p) book (Some r) there is = moved_from-leaves test move leaves 1 p (suc p) book r (omega arith) there is
+moved_at-leaves test move leaves (suc p) book (Some r) there is = changed_from-leaves test move leaves 1 p (suc p) book r (omega arith) there is
 
 pub withdrawn-leaves : Leaves is_registered made_withdrawn
 withdrawn-leaves = record { before = before; after = after }
@@ -147,20 +151,21 @@ lowest-below book n zero lowest below = refl
 lowest-below book n (suc k) lowest below = find-first (is_at is_due book) 1 (length book) n (suc k) lowest (omega arith) below
 
 -- ALL OF THEM
--- what holds of every registration, and is kept by a move
-All-moved_from : (P : Registration → Type 0) (move : TicketState → TicketState) → ((r : Registration) → P r → P (moved move r)) → (test : ℕ → Bool) (k : ℕ) (rs : Book)
-    → All P rs → All P (moved_from k move test rs)
-All-moved_from P move keeps test k [] all = All-nil P
-All-moved_from P move keeps test k (r ∷ rs) all =
-    All-cons P (cond (test k) (moved move r) r) (moved_from (suc k) move test rs) (first (test k)) (All-moved_from P move keeps test (suc k) rs (All-tail P r rs all))
+-- what holds of every registration, and is kept by a change
+All-changed_from : (P : Registration → Type 0) (change : Registration → Registration) → ((r : Registration) → P r → P (change r)) → (test : ℕ → Bool) (k : ℕ)
+    (rs : Book) → All P rs → All P (changed_from k change test rs)
+All-changed_from P change keeps test k [] all = All-nil P
+All-changed_from P change keeps test k (r ∷ rs) all =
+    All-cons P (cond (test k) (change r) r) (changed_from (suc k) change test rs) (first (test k))
+    (All-changed_from P change keeps test (suc k) rs (All-tail P r rs all))
   where
-    first : (b : Bool) → P (cond b (moved move r) r)
+    first : (b : Bool) → P (cond b (change r) r)
     first true = keeps r (All-head P r rs all)
     first false = All-head P r rs all
 
-pub All-moved : (P : Registration → Type 0) (move : TicketState → TicketState) → ((r : Registration) → P r → P (moved move r)) → (test : ℕ → Bool) (book : Book)
-    → All P book → All P (moved_where move test book)
-All-moved P move keeps test book all = All-moved_from P move keeps test 1 book all
+pub All-changed_where : (P : Registration → Type 0) (change : Registration → Registration) → ((r : Registration) → P r → P (change r)) → (test : ℕ → Bool)
+    (book : Book) → All P book → All P (changed_where change test book)
+All-changed_where P change keeps test book all = All-changed_from P change keeps test 1 book all
 
 -- NOTHING LEFT TO BEGIN
 abbrev pub NoneRegistered : Book → Type 0
@@ -171,10 +176,10 @@ due-registers-none : (s : TicketState) → is_registered (made_due s) ≡ false
 due-registers-none Registered = refl
 due-registers-none _ = refl
 
-due_from-none : (k : ℕ) (rs : Book) → NoneRegistered (moved_from k made_due (λ n. true) rs)
+due_from-none : (k : ℕ) (rs : Book) → NoneRegistered (changed_from k (moved made_due) (λ n. true) rs)
 due_from-none k [] = All-nil (λ (r : Registration). is_registered r.state ≡ false)
 due_from-none k (r ∷ rs) =
-    All-cons (λ (q : Registration). is_registered q.state ≡ false) (moved made_due r) (moved_from (suc k) made_due (λ n. true) rs) (due-registers-none r.state) (due_from-none (suc k) rs)
+    All-cons (λ (q : Registration). is_registered q.state ≡ false) (moved made_due r) (changed_from (suc k) (moved made_due) (λ n. true) rs) (due-registers-none r.state) (due_from-none (suc k) rs)
 
 pub all_due-none : (book : Book) → NoneRegistered (all_due book)
 all_due-none book = due_from-none 1 book
@@ -222,9 +227,10 @@ none-waits (r ∷ book) registered due =
 pub none-owed_tickets : (book : Book) → NoneRegistered book → lowest_due book ≡ None → owed_tickets book ≡ 0
 none-owed_tickets book registered none = none-waits book registered (none-due book none)
 
-length-moved_from : (move : TicketState → TicketState) (test : ℕ → Bool) (k : ℕ) (rs : Book) → length (moved_from k move test rs) ≡ length rs
-length-moved_from move test k [] = refl
-length-moved_from move test k (r ∷ rs) = ap suc (length-moved_from move test (suc k) rs)
+-- no change gives or takes a ticket
+length-changed_from : (change : Registration → Registration) (test : ℕ → Bool) (k : ℕ) (rs : Book) → length (changed_from k change test rs) ≡ length rs
+length-changed_from change test k [] = refl
+length-changed_from change test k (r ∷ rs) = ap suc (length-changed_from change test (suc k) rs)
 
-pub length-moved : (move : TicketState → TicketState) (test : ℕ → Bool) (book : Book) → length (moved_where move test book) ≡ length book
-length-moved move test book = length-moved_from move test 1 book
+pub length-changed_where : (change : Registration → Registration) (test : ℕ → Bool) (book : Book) → length (changed_where change test book) ≡ length book
+length-changed_where change test book = length-changed_from change test 1 book

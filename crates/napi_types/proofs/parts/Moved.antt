@@ -4,7 +4,7 @@ use Rattle.std.specs.Option.{unwrap_or}
 use Rattle.std.proofs.lemmas.Bool.{eqb-true}
 use Rattle.std.proofs.lemmas.Option.{same_Some, slice_get_within}
 use Rattle.napi_types.specs.declared.entry.Cause.{Cause}
-use Rattle.napi_types.specs.parts.Book.{Book, Registration, TicketState, is_at, moved, moved_from, moved_where, registration_at, new_ticket, with_registration, cause_at}
+use Rattle.napi_types.specs.parts.Book.{Book, Registration, TicketState, is_at, changed_from, changed_where, registration_at, new_ticket, with_registration, cause_at}
 use Rattle.napi_types.proofs.plain.Counted.{element-push}
 use Rattle.napi_types.proofs.plain.Found.{apart-below, same-self, turned}
 
@@ -49,49 +49,53 @@ pub registration-within : (book : Book) (n : ℕ) (r : Registration) → registr
 registration-within book zero r there = let no : ⊥ = cc in absurd no
 registration-within book (suc p) r there = omega (arith, slice_get_within book p r there)
 
--- A MOVE
-slice_get-moved_from : (move : TicketState → TicketState) (test : ℕ → Bool) (k : ℕ) (rs : List Registration) (p : ℕ)
-    → slice_get (moved_from k move test rs) p ≡ option_map (λ r. cond (test (k + p)) (moved move r) r) (slice_get rs p)
-slice_get-moved_from move test k [] p = refl
-slice_get-moved_from move test k (r ∷ rs) zero = ap (λ n. Some (cond (test n) (moved move r) r)) (last k)
+-- REGISTRATIONS ARE CHANGED
+-- whatever the change is
+slice_get-changed_from : (change : Registration → Registration) (test : ℕ → Bool) (k : ℕ) (rs : List Registration) (p : ℕ)
+    → slice_get (changed_from k change test rs) p ≡ option_map (λ r. cond (test (k + p)) (change r) r) (slice_get rs p)
+slice_get-changed_from change test k [] p = refl
+slice_get-changed_from change test k (r ∷ rs) zero = ap (λ n. Some (cond (test n) (change r) r)) (last k)
   where
     last : (k : ℕ) → k ≡ k + 0
     last k = omega arith
-slice_get-moved_from move test k (r ∷ rs) (suc p) =
-    slice_get-moved_from move test (suc k) rs p ∙ ap (λ n. option_map (λ (q : Registration). cond (test n) (moved move q) q) (slice_get rs p)) (next k p)
+slice_get-changed_from change test k (r ∷ rs) (suc p) =
+    slice_get-changed_from change test (suc k) rs p ∙ ap (λ n. option_map (λ (q : Registration). cond (test n) (change q) q) (slice_get rs p)) (next k p)
   where
     next : (k p : ℕ) → suc k + p ≡ k + suc p
     next k p = omega arith
 
-pub registration_at-moved_where : (move : TicketState → TicketState) (test : ℕ → Bool) (book : Book) (n : ℕ)
-    → registration_at (moved_where move test book) n ≡ option_map (λ r. cond (test n) (moved move r) r) (registration_at book n)
-registration_at-moved_where move test book zero = refl
-registration_at-moved_where move test book (suc p) =
-    slice_get-moved_from move test 1 book p ∙ ap (λ n. option_map (λ (q : Registration). cond (test n) (moved move q) q) (slice_get book p)) (next p)
+pub registration_at-changed_where : (change : Registration → Registration) (test : ℕ → Bool) (book : Book) (n : ℕ)
+    → registration_at (changed_where change test book) n ≡ option_map (λ r. cond (test n) (change r) r) (registration_at book n)
+registration_at-changed_where change test book zero = refl
+registration_at-changed_where change test book (suc p) =
+    slice_get-changed_from change test 1 book p ∙ ap (λ n. option_map (λ (q : Registration). cond (test n) (change q) q) (slice_get book p)) (next p)
   where
     next : (p : ℕ) → 1 + p ≡ suc p
     next p = omega arith
 
--- its frame begins for what it was to begin for
-pub cause_at-moved_where : (move : TicketState → TicketState) (test : ℕ → Bool) (book : Book) (n : ℕ) → cause_at (moved_where move test book) n ≡ cause_at book n
-cause_at-moved_where move test book n = ap (λ o. option_map (λ (r : Registration). r.cause) o) (registration_at-moved_where move test book n) ∙ by (test n) (registration_at book n)
-  where
-    by : (b : Bool) (o : Option Registration) → option_map (λ (r : Registration). r.cause) (option_map (λ (r : Registration). cond b (moved move r) r) o) ≡ option_map (λ (r : Registration). r.cause) o
-    by b None = refl
-    by true (Some r) = refl
-    by false (Some r) = refl
+-- it is in the state that it was changed to
+pub is_at-changed_where : (passes : TicketState → Bool) (change : Registration → Registration) (test : ℕ → Bool) (book : Book) (n : ℕ) (r : Registration)
+    → registration_at book n ≡ Some r → is_at passes (changed_where change test book) n ≡ passes (cond (test n) (change r) r).state
+is_at-changed_where passes change test book n r there =
+    let now : registration_at (changed_where change test book) n ≡ Some (cond (test n) (change r) r) =
+    registration_at-changed_where change test book n ∙ ap (λ o. option_map (λ (q : Registration). cond (test n) (change q) q) o) there in
+    at-state passes (changed_where change test book) n (cond (test n) (change r) r) now
 
--- and it is in the state that it was moved to
-pub is_at-moved_where : (passes : TicketState → Bool) (move : TicketState → TicketState) (test : ℕ → Bool) (book : Book) (n : ℕ) (r : Registration) → registration_at book n ≡ Some r
-    → is_at passes (moved_where move test book) n ≡ passes (cond (test n) (move r.state) r.state)
-is_at-moved_where passes move test book n r there =
-    let now : registration_at (moved_where move test book) n ≡ Some (cond (test n) (moved move r) r) =
-    registration_at-moved_where move test book n ∙ ap (λ o. option_map (λ (q : Registration). cond (test n) (moved move q) q) o) there in
-    at-state passes (moved_where move test book) n (cond (test n) (moved move r) r) now ∙ by (test n)
+-- a change that keeps why the frame begins, as each move does
+abbrev pub KeepsCause : (Registration → Registration) → Type 0
+KeepsCause change = (r : Registration) → (change r).cause ≡ r.cause
+
+-- then it begins for what it was to begin for
+pub cause_at-changed_where : (change : Registration → Registration) → KeepsCause change → (test : ℕ → Bool) (book : Book) (n : ℕ)
+    → cause_at (changed_where change test book) n ≡ cause_at book n
+cause_at-changed_where change keeps test book n =
+    ap (λ o. option_map (λ (r : Registration). r.cause) o) (registration_at-changed_where change test book n) ∙ by (test n) (registration_at book n)
   where
-    by : (b : Bool) → passes (cond b (moved move r) r).state ≡ passes (cond b (move r.state) r.state)
-    by true = refl
-    by false = refl
+    by : (b : Bool) (o : Option Registration)
+        → option_map (λ (r : Registration). r.cause) (option_map (λ (r : Registration). cond b (change r) r) o) ≡ option_map (λ (r : Registration). r.cause) o
+    by b None = refl
+    by true (Some r) = ap Some (keeps r)
+    by false (Some r) = refl
 
 -- A REGISTRATION MORE
 registration_at-pushed : (book : Book) (r : Registration) (n : ℕ)

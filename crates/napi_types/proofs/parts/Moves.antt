@@ -2,8 +2,8 @@
 use Rattle.std.proofs.Common.{◌≡◌, ◌≢◌, ℕ, suc, Bool, true, false, cond, ◌∷◌, [], refl, ◌∙◌, sym, ap}
 use Rattle.std.specs.List.{All}
 use Rattle.std.proofs.lemmas.Bool.{true_from_ne_false}
-use Rattle.napi_types.specs.parts.Book.{Registration, TicketState, Registered, Due, Begun, Book, is_registered, is_due, is_begun, is_owed, made_due, made_withdrawn, made_begun, made_ended, moved, moved_from, moved_where}
-use Rattle.napi_types.proofs.parts.Books.{All-moved}
+use Rattle.napi_types.specs.parts.Book.{Registration, TicketState, Registered, Due, Begun, Book, is_registered, is_due, is_begun, is_owed, made_due, made_withdrawn, made_begun, made_ended, changed_from, changed_where, moved}
+use Rattle.napi_types.proofs.parts.Books.{All-changed_where}
 
 -- a ticket falls due, is withdrawn, begins or ends
 pub data Move : Type 0 where
@@ -24,27 +24,27 @@ KeptByMoves P = (move : Move) (r : Registration) → P r → P (moved (next move
 
 -- a statement on books that every move of tickets keeps
 abbrev pub MovesKeep : (Book → Type 0) → Type 0
-MovesKeep Q = (move : Move) (test : ℕ → Bool) (book : Book) → Q book → Q (moved_where (next move) test book)
+MovesKeep Q = (move : Move) (test : ℕ → Bool) (book : Book) → Q book → Q (changed_where (moved (next move)) test book)
 
 -- as is what holds of every registration
 pub each-kept : (P : Registration → Type 0) → KeptByMoves P → MovesKeep (λ book. All P book)
-each-kept P moves move test book all = All-moved P (next move) (moves move) test book all
+each-kept P moves move test book all = All-changed_where P (moved (next move)) (moves move) test book all
 
--- two moves, one after the other, are one
-moved_from-both : (first second : TicketState → TicketState) (test : ℕ → Bool) (k : ℕ) (rs : Book)
-    → moved_from k second test (moved_from k first test rs) ≡ moved_from k (λ s. second (first s)) test rs
-moved_from-both first second test k [] = refl
-moved_from-both first second test k (r ∷ rs) =
-    ap (λ q. q ∷ moved_from (suc k) second test (moved_from (suc k) first test rs)) (by (test k))
-    ∙ ap (λ qs. cond (test k) (moved (λ s. second (first s)) r) r ∷ qs) (moved_from-both first second test (suc k) rs)
+-- two changes of registrations, one after the other, are one
+changed_from-both : (first second : Registration → Registration) (test : ℕ → Bool) (k : ℕ) (rs : Book)
+    → changed_from k second test (changed_from k first test rs) ≡ changed_from k (λ r. second (first r)) test rs
+changed_from-both first second test k [] = refl
+changed_from-both first second test k (r ∷ rs) =
+    ap (λ q. q ∷ changed_from (suc k) second test (changed_from (suc k) first test rs)) (by (test k))
+    ∙ ap (λ qs. cond (test k) (second (first r)) r ∷ qs) (changed_from-both first second test (suc k) rs)
   where
-    by : (b : Bool) → cond b (moved second (cond b (moved first r) r)) (cond b (moved first r) r) ≡ cond b (moved (λ s. second (first s)) r) r
+    by : (b : Bool) → cond b (second (cond b (first r) r)) (cond b (first r) r) ≡ cond b (second (first r)) r
     by true = refl
     by false = refl
 
-pub moved-both : (first second : TicketState → TicketState) (test : ℕ → Bool) (book : Book)
-    → moved_where second test (moved_where first test book) ≡ moved_where (λ s. second (first s)) test book
-moved-both first second test book = moved_from-both first second test 1 book
+pub changed_where-both : (first second : Registration → Registration) (test : ℕ → Bool) (book : Book)
+    → changed_where second test (changed_where first test book) ≡ changed_where (λ r. second (first r)) test book
+changed_where-both first second test book = changed_from-both first second test 1 book
 
 -- WHAT EVERY MOVE KEEPS
 -- none is registered that was not

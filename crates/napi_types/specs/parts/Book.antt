@@ -101,26 +101,32 @@ new_ticket book = length book + 1
 abbrev pub with_registration : Registration → Book → Book
 with_registration r book = book ++ r ∷ []
 
+-- CHANGES
+-- the registrations of the tickets from this one on, where those of the tickets that pass the test were changed
+abbrev pub changed_from : ℕ → (Registration → Registration) → (ℕ → Bool) → List Registration → List Registration
+changed_from n change test [] = []
+changed_from n change test (r ∷ rs) = cond (test n) (change r) r ∷ changed_from (suc n) change test rs
+
+-- the registrations of the tickets that pass the test are changed
+abbrev pub changed_where : (Registration → Registration) → (ℕ → Bool) → Book → Book
+changed_where change test book = changed_from 1 change test book
+
+-- the registration of one ticket is changed
+abbrev pub changed_at : (Registration → Registration) → ℕ → Book → Book
+changed_at change n book = changed_where change (λ m. m == n) book
+
 -- MOVES
+-- a move changes how far a ticket has come, and nothing else
 abbrev pub moved : (TicketState → TicketState) → Registration → Registration
 moved move r = record r { state = move r.state }
 
--- the registrations of the tickets from this one on, where those that pass the test were moved
-abbrev pub moved_from : ℕ → (TicketState → TicketState) → (ℕ → Bool) → List Registration → List Registration
-moved_from n move test [] = []
-moved_from n move test (r ∷ rs) = cond (test n) (moved move r) r ∷ moved_from (suc n) move test rs
-
--- the tickets that pass the test are moved
-abbrev pub moved_where : (TicketState → TicketState) → (ℕ → Bool) → Book → Book
-moved_where move test book = moved_from 1 move test book
-
 -- one ticket is moved
 abbrev pub moved_at : (TicketState → TicketState) → ℕ → Book → Book
-moved_at move n book = moved_where move (λ m. m == n) book
+moved_at move n book = changed_at (moved move) n book
 
 -- the tickets that pass the test fall due, where they are registered
 abbrev pub due_where : (ℕ → Bool) → Book → Book
-due_where test book = moved_where made_due test book
+due_where test book = changed_where (moved made_due) test book
 
 -- every registered ticket falls due
 abbrev pub all_due : Book → Book

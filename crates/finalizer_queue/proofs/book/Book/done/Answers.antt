@@ -1,12 +1,12 @@
 use Rattle.std.proofs.Common.{◌≡◌, ◌∙◌, true, sym, ap}
 use Rattle.std.proofs.lemmas.Bool.{or_parts}
 use Rattle.napi_types.specs.declared.duties.DueInfo.{DueInfo}
-use Rattle.napi_types.specs.parts.Book.{is_begun, is_at, made_ended, moved_at}
+use Rattle.napi_types.specs.parts.Book.{is_begun, is_at, made_ended, moved, moved_at}
 use Rattle.napi_types.proofs.parts.Moves.{Ends, unowed-moved}
 use Rattle.finalizer_queue.specs.KeptBook.{ticket_number}
 use Rattle.finalizer_queue.specs.TicketRows.{row_state}
 use Rattle.finalizer_queue.proofs.KeptBook.{kept-spent, begun-unowed}
-use Rattle.finalizer_queue.proofs.RowMoves.{IsTicketRow, book_of-moved, row-passes}
+use Rattle.finalizer_queue.proofs.RowMoves.{IsTicketRow, book_of-changed, row-passes}
 use Rattle.finalizer_queue.proofs.book.Book.done.Goals as goal
 use Rattle.finalizer_queue.proofs.book.Book.done.Goals.{After-index_mut}
 
@@ -30,6 +30,6 @@ invariant_of-self c =
 pub returns-clause-ended : goal.returns-clause-ended
 returns-clause-ended c =
     let before = (goal.at.returns-clause-ended c).After-index_mut in
-    book_of-moved made_ended _ c.in-Ticket.ticket.0 _ _ (row before).0 c.end-2.ensures
+    book_of-changed (moved made_ended) _ c.in-Ticket.ticket.0 _ _ (row before).0 c.end-2.ensures
     ∙ ap (λ k. moved_at made_ended c.in-Ticket.ticket.0 k.book) c.self.view_is
     ∙ ap (λ n. moved_at made_ended n c.args.self.now.book) (sym (numbered before))

@@ -1,9 +1,9 @@
 use Rattle.std.proofs.Common.{◌≡◌, ◌∙◌, length, sym, ap, refl, arith}
 use Rattle.std.proofs.lemmas.List.{length-map}
-use Rattle.napi_types.specs.parts.Book.{made_due, moved_at}
+use Rattle.napi_types.specs.parts.Book.{made_due, moved, moved_at}
 use Rattle.finalizer_queue.specs.TicketRows.{row_registration}
 use Rattle.finalizer_queue.proofs.KeptBook.{kept-due, kept-stays, room-free, never_refused}
-use Rattle.finalizer_queue.proofs.RowMoves.{IsTicketRow, book_of-moved}
+use Rattle.finalizer_queue.proofs.RowMoves.{IsTicketRow, book_of-changed}
 use Rattle.finalizer_queue.proofs.book.Book.make_due.Goals as goal
 use Rattle.finalizer_queue.proofs.book.Book.make_due.Goals.{After-index_mut}
 
@@ -28,10 +28,10 @@ invariant_of-self-else-fall_due c =
 
 pub returns-in-Ok-clause-due : goal.returns-in-Ok-clause-due
 returns-in-Ok-clause-due c =
-    book_of-moved made_due _ c.args.ticket.0 _ _ (row (goal.at.returns-in-Ok-clause-due c).After-index_mut) c.fall_due.ensures.due
+    book_of-changed (moved made_due) _ c.args.ticket.0 _ _ (row (goal.at.returns-in-Ok-clause-due c).After-index_mut) c.fall_due.ensures.due
     ∙ ap (λ k. moved_at made_due c.args.ticket.0 k.book) c.self.view_is
 
 pub returns-else-fall_due-clause-due : goal.returns-else-fall_due-clause-due
 returns-else-fall_due-clause-due c =
-    book_of-moved made_due _ c.args.ticket.0 _ _ (row (goal.at.returns-else-fall_due-clause-due c).After-index_mut) c.fall_due.ensures.due
+    book_of-changed (moved made_due) _ c.args.ticket.0 _ _ (row (goal.at.returns-else-fall_due-clause-due c).After-index_mut) c.fall_due.ensures.due
     ∙ ap (λ k. moved_at made_due c.args.ticket.0 k.book) c.self.view_is

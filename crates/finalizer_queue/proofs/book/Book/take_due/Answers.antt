@@ -1,8 +1,8 @@
 use Rattle.std.proofs.Common.{◌≡◌, ◌∙◌, true, Some, refl, sym, ap, arith, heap_items}
-use Rattle.napi_types.specs.parts.Book.{is_due, is_at, made_begun, moved_at, registration_at, lowest_due}
+use Rattle.napi_types.specs.parts.Book.{is_due, is_at, made_begun, moved, moved_at, registration_at, lowest_due}
 use Rattle.finalizer_queue.specs.TicketRows.{row_state, row_registration, book_of}
 use Rattle.finalizer_queue.proofs.KeptBook.{kept-taken, popped-due, popped-lowest, empty-lowest, due-waits, moved-begun, nil-length}
-use Rattle.finalizer_queue.proofs.RowMoves.{IsTicketRow, book_of-moved, registration_at-row, is_at-within, row-passes}
+use Rattle.finalizer_queue.proofs.RowMoves.{IsTicketRow, book_of-changed, registration_at-row, is_at-within, row-passes}
 use Rattle.finalizer_queue.proofs.book.Book.take_due.Goals as goal
 use Rattle.finalizer_queue.proofs.book.Book.take_due.Goals.{In_ok-number, After-index_mut}
 
@@ -49,7 +49,7 @@ returns-clause-taken c =
       lowest = lowest (goal.at.returns-clause-taken c).In_ok-number;
       registered = ap (λ k. registration_at k.book c.in_ok-number.field-0.0) (sym c.self.view_is) ∙ registration_at-row _ c.in_ok-number.field-0.0 _ is.0;
       told = c.begin-due.ensures.told;
-      begun = book_of-moved made_begun _ c.in_ok-number.field-0.0 _ _ is.0 (moved-begun _ _ is.1 c.begin-due.ensures.begun)
+      begun = book_of-changed (moved made_begun) _ c.in_ok-number.field-0.0 _ _ is.0 (moved-begun _ _ is.1 c.begin-due.ensures.begun)
           ∙ ap (λ k. moved_at made_begun c.in_ok-number.field-0.0 k.book) c.self.view_is;
     }
 

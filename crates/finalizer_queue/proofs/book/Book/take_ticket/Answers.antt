@@ -1,9 +1,9 @@
 use Rattle.std.proofs.Common.{◌≡◌, ◌∙◌, true, Some, sym, ap}
-use Rattle.napi_types.specs.parts.Book.{is_registered, registration_at, made_due_and_begun, moved_at}
+use Rattle.napi_types.specs.parts.Book.{is_registered, registration_at, made_due_and_begun, moved, moved_at}
 use Rattle.napi_types.proofs.parts.Books.{hook-leaves}
 use Rattle.finalizer_queue.specs.TicketRows.{row_state, row_registration}
 use Rattle.finalizer_queue.proofs.KeptBook.{kept-spent, registered-undue, registered-waits}
-use Rattle.finalizer_queue.proofs.RowMoves.{IsTicketRow, book_of-moved, registration_at-row, row-passes}
+use Rattle.finalizer_queue.proofs.RowMoves.{IsTicketRow, book_of-changed, registration_at-row, row-passes}
 use Rattle.finalizer_queue.proofs.book.Book.take_ticket.Goals as goal
 use Rattle.finalizer_queue.proofs.book.Book.take_ticket.Goals.{After-index_mut}
 
@@ -29,5 +29,5 @@ returns-clause-told c =
 pub returns-clause-begun : goal.returns-clause-begun
 returns-clause-begun c =
     let is = row (goal.at.returns-clause-begun c).After-index_mut in
-    book_of-moved made_due_and_begun _ c.args.ticket.0 _ _ is.0 c.begin.ensures.begun
+    book_of-changed (moved made_due_and_begun) _ c.args.ticket.0 _ _ is.0 c.begin.ensures.begun
     ∙ ap (λ k. moved_at made_due_and_begun c.args.ticket.0 k.book) c.self.view_is
