@@ -1,16 +1,17 @@
 -- What is attached to values, as some of them are freed.
 use Rattle.std.proofs.Common.{◌≡◌, ◌∙◌, ℕ, ◌≤◌, ◌==◌, ◌&&◌, ◌||◌, Bool, true, false, not, cond, List, [], ◌∷◌, length, map, filter, get_or, Option, Some, None, IfSome, refl, ap, sym, subst}
 use Rattle.std.specs.List.{All, list_any, filter_map, cons_option}
-use Rattle.std.proofs.lemmas.List.Elements.{All-head, All-tail, All-cons, All-nil, All-append, All-filter, All-map}
+use Rattle.std.proofs.lemmas.List.Elements.{All-head, All-tail, All-filter}
 use Rattle.std.proofs.lemmas.List.Folds.{list_any-append}
 use Rattle.std.proofs.lemmas.Bool.{not-true}
 use Rattle.napi_types.specs.plain.Lists.{has_number}
-use Rattle.napi_types.specs.parts.Attachments.{Wrapped, Tagged, Attached, Attachments, left_on, tickets_where, hangs_on}
+use Rattle.napi_types.specs.parts.Attachments.{Wrapped, Tagged, Attached, Attachments, attached_where, left_on, tickets_where, hangs_on}
 use Rattle.napi_types.specs.parts.Book.{Book, due_where}
 use Rattle.napi_types.specs.parts.Graph.{StoreState, IsSoundStore, IsLive, number_in}
 use Rattle.napi_types.specs.environment.Collection.{is_freed}
 use Rattle.napi_types.proofs.plain.Found.{passing, map-rising, as_map-kept}
 use Rattle.napi_types.proofs.plain.Lists.{any-map}
+use Rattle.napi_types.proofs.parts.AttachedTickets.{HoldsAttached, All-tickets_in, HoldsAttached-where}
 use Rattle.finalizer_queue.proofs.RowMoves.{length-due_where}
 use Rattle.wrap_tag.specs.Wraps.{AreGiven}
 use Rattle.wrap_tag.proofs.Dues.{due_where-same}
@@ -29,14 +30,20 @@ abbrev holds_of : (ℕ → Bool) → Option ℕ → Bool
 holds_of p None = false
 holds_of p (Some n) = p n
 
-any-filter_map : {A : Type 0} (p : ℕ → Bool) (g : A → Option ℕ) (xs : List A) → list_any p (filter_map g xs) ≡ list_any (λ x. holds_of p (g x)) xs
-any-filter_map p g [] = refl
-any-filter_map p g (x ∷ xs) = by (g x) (any-filter_map p g xs)
+any-filter_map : {A : Type 0} (p : ℕ → Bool) (g : A → Option ℕ) (q : A → Bool) (xs : List A)
+    → list_any p (filter_map g (filter q xs)) ≡ list_any (λ x. q x && holds_of p (g x)) xs
+any-filter_map p g q [] = refl
+any-filter_map p g q (x ∷ xs) = by (q x) (any-filter_map p g q xs)
   where
-    by : (o : Option ℕ) → list_any p (filter_map g xs) ≡ list_any (λ y. holds_of p (g y)) xs
-        → list_any p (cons_option o (filter_map g xs)) ≡ (holds_of p o || list_any (λ y. holds_of p (g y)) xs)
-    by None rest = rest
-    by (Some n) rest = ap (λ b. p n || b) rest
+    first : (o : Option ℕ) → list_any p (filter_map g (filter q xs)) ≡ list_any (λ y. q y && holds_of p (g y)) xs
+        → list_any p (cons_option o (filter_map g (filter q xs))) ≡ (holds_of p o || list_any (λ y. q y && holds_of p (g y)) xs)
+    first None rest = rest
+    first (Some n) rest = ap (λ b. p n || b) rest
+
+    by : (b : Bool) → list_any p (filter_map g (filter q xs)) ≡ list_any (λ y. q y && holds_of p (g y)) xs
+        → list_any p (filter_map g (cond b (x ∷ filter q xs) (filter q xs))) ≡ ((b && holds_of p (g x)) || list_any (λ y. q y && holds_of p (g y)) xs)
+    by true rest = first (g x) rest
+    by false rest = rest
 
 any-filter : {A : Type 0} (p : ℕ → Bool) (f : A → ℕ) (q : A → Bool) (xs : List A) → list_any p (map f (filter q xs)) ≡ list_any (λ x. q x && p (f x)) xs
 any-filter p f q [] = refl
@@ -83,21 +90,21 @@ module _ (s t : StoreState) (ids freed alive : List ℕ) (c : FreesOthers s t id
   abbrev hit : ℕ → ℕ → Bool
   hit n m = m == n
 
-  freed-same : (id n : ℕ) (o : Option ℕ) → IsLive s id → holds_of (hit n) (cond (has_number id freed) o None) ≡ holds_of (hit n) (cond (is_freed alive (number_in s id)) o None)
-  freed-same id n o live = ap (λ b. holds_of (hit n) (cond b o None)) (c.told id live)
+  freed-same : (id n : ℕ) (o : Option ℕ) → IsLive s id → (has_number id freed && holds_of (hit n) o) ≡ (is_freed alive (number_in s id) && holds_of (hit n) o)
+  freed-same id n o live = ap (λ b. b && holds_of (hit n) o) (c.told id live)
 
   hangs-same : (n : ℕ) → hangs_on (λ v. has_number v freed) a n ≡ hangs_on (is_freed alive) (attachments_seen s a) n
   hangs-same n =
-      let mine : Wrapped → Bool = λ w. holds_of (hit n) (cond (has_number w.value freed) w.ticket None) in
-      let seen : Wrapped → Bool = λ w. holds_of (hit n) (cond (is_freed alive w.value) w.ticket None) in
-      let wraps : list_any (hit n) (filter_map (λ w. cond (has_number w.value freed) w.ticket None) a.wraps)
-      ≡ list_any (hit n) (filter_map (λ w. cond (is_freed alive w.value) w.ticket None) (attachments_seen s a).wraps) =
-      any-filter_map (hit n) (λ (w : Wrapped). cond (has_number w.value freed) w.ticket None) a.wraps
+      let mine : Wrapped → Bool = λ w. has_number w.value freed && holds_of (hit n) w.ticket in
+      let seen : Wrapped → Bool = λ w. is_freed alive w.value && holds_of (hit n) w.ticket in
+      let wraps : list_any (hit n) (filter_map (λ w. w.ticket) (filter (λ w. has_number w.value freed) a.wraps))
+      ≡ list_any (hit n) (filter_map (λ w. w.ticket) (filter (λ w. is_freed alive w.value) (attachments_seen s a).wraps)) =
+      any-filter_map (hit n) (λ (w : Wrapped). w.ticket) (λ w. has_number w.value freed) a.wraps
       ∙ any-same mine (λ w. seen (seen_wrap s w)) a.wraps (λ k w inside. freed-same (get_or a.wraps k w).value n (get_or a.wraps k w).ticket (i.wraps k w inside))
       ∙ sym (any-map seen (seen_wrap s) a.wraps)
       ∙ sym (list_any-seen (λ (w : Wrapped). w.value) (number_in s) (seen_wrap s) (λ w. refl) (IsLive s) (number-apart s sound) seen a.wraps i.wraps
       (map-rising (λ (w : Wrapped). w.value) a.wraps i.wrapped_once))
-      ∙ sym (any-filter_map (hit n) (λ (w : Wrapped). cond (is_freed alive w.value) w.ticket None) (attachments_seen s a).wraps) in
+      ∙ sym (any-filter_map (hit n) (λ (w : Wrapped). w.ticket) (λ w. is_freed alive w.value) (attachments_seen s a).wraps) in
       let tickets : list_any (hit n) (map (λ t. t.ticket) (filter (λ t. has_number t.value freed) a.tickets))
       ≡ list_any (hit n) (map (λ t. t.ticket) (filter (λ t. is_freed alive t.value) (attachments_seen s a).tickets)) =
       any-filter (hit n) (λ (x : Attached). x.ticket) (λ x. has_number x.value freed) a.tickets
@@ -105,33 +112,21 @@ module _ (s t : StoreState) (ids freed alive : List ℕ) (c : FreesOthers s t id
       (λ k x inside. ap (λ b. b && hit n (get_or a.tickets k x).ticket) (c.told (get_or a.tickets k x).value (i.tickets k x inside)))
       ∙ sym (any-map (λ (x : Attached). is_freed alive x.value && hit n x.ticket) (seen_attached s) a.tickets)
       ∙ sym (any-filter (hit n) (λ (x : Attached). x.ticket) (λ x. is_freed alive x.value) (attachments_seen s a).tickets) in
-      list_any-append (hit n) (filter_map (λ w. cond (has_number w.value freed) w.ticket None) a.wraps) (map (λ t. t.ticket) (filter (λ t. has_number t.value freed) a.tickets))
+      list_any-append (hit n) (filter_map (λ w. w.ticket) (filter (λ w. has_number w.value freed) a.wraps)) (map (λ t. t.ticket) (filter (λ t. has_number t.value freed) a.tickets))
       ∙ ap (λ b. b || list_any (hit n) (map (λ t. t.ticket) (filter (λ t. has_number t.value freed) a.tickets))) wraps
-      ∙ ap (λ b. list_any (hit n) (filter_map (λ w. cond (is_freed alive w.value) w.ticket None) (attachments_seen s a).wraps) || b) tickets
-      ∙ sym (list_any-append (hit n) (filter_map (λ w. cond (is_freed alive w.value) w.ticket None) (attachments_seen s a).wraps)
+      ∙ ap (λ b. list_any (hit n) (filter_map (λ w. w.ticket) (filter (λ w. is_freed alive w.value) (attachments_seen s a).wraps)) || b) tickets
+      ∙ sym (list_any-append (hit n) (filter_map (λ w. w.ticket) (filter (λ w. is_freed alive w.value) (attachments_seen s a).wraps))
       (map (λ t. t.ticket) (filter (λ t. is_freed alive t.value) (attachments_seen s a).tickets)))
 
   pub due-seen : due_where (hangs_on (λ v. has_number v freed) a) book ≡ due_where (hangs_on (is_freed alive) (attachments_seen s a)) book
   due-seen = due_where-same (hangs_on (λ v. has_number v freed) a) (hangs_on (is_freed alive) (attachments_seen s a)) book hangs-same
 
   -- the book gave each of them
-  given-some : (o : Option ℕ) (b : Bool) (ns : List ℕ) → IfSome o (IsGiven book) → All (IsGiven book) ns → All (IsGiven book) (cons_option (cond b o None) ns)
-  given-some None true ns here rest = rest
-  given-some None false ns here rest = rest
-  given-some (Some n) true ns here rest = All-cons (IsGiven book) n ns here rest
-  given-some (Some n) false ns here rest = rest
-
-  given-wraps : (ws : List Wrapped) → All (λ w. IfSome w.ticket (IsGiven book)) ws → All (IsGiven book) (filter_map (λ w. cond (has_number w.value freed) w.ticket None) ws)
-  given-wraps [] all = All-nil (IsGiven book)
-  given-wraps (w ∷ ws) all =
-      given-some w.ticket (has_number w.value freed) (filter_map (λ w. cond (has_number w.value freed) w.ticket None) ws) (All-head (λ (x : Wrapped). IfSome x.ticket (IsGiven book)) w ws all)
-      (given-wraps ws (All-tail (λ (x : Wrapped). IfSome x.ticket (IsGiven book)) w ws all))
-
   pub given-freed : AreGiven (tickets_where (λ v. has_number v freed) a) book
   given-freed =
-      All-append (IsGiven book) (filter_map (λ w. cond (has_number w.value freed) w.ticket None) a.wraps) (map (λ t. t.ticket) (filter (λ t. has_number t.value freed) a.tickets))
-      (given-wraps a.wraps i.given_with_wraps)
-      (All-map (IsGiven book) (λ (x : Attached). x.ticket) (filter (λ t. has_number t.value freed) a.tickets) (All-filter (λ t. has_number t.value freed) (λ (x : Attached). IsGiven book x.ticket) a.tickets i.given))
+      let freed_here : ℕ → Bool = λ v. has_number v freed in
+      let all : HoldsAttached (IsGiven book) a = record { wraps = i.given_with_wraps; tickets = i.given } in
+      All-tickets_in (IsGiven book) (attached_where freed_here a) (HoldsAttached-where (IsGiven book) freed_here a all)
 
   -- WHAT IS LEFT
   live-left : {A : Type 0} (value : A → ℕ) (xs : List A) → All (λ x. IsLive s (value x)) xs → All (λ x. IsLive t (value x)) (filter (λ x. not (has_number (value x) freed)) xs)

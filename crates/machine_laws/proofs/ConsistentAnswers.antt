@@ -11,13 +11,10 @@ use Rattle.napi_types.specs.declared.entry.Out.TheVariants as out
 use Rattle.napi_types.specs.declared.ids.TextNo.{TextNo}
 use Rattle.napi_types.specs.plain.Lists.{found}
 use Rattle.napi_types.specs.plain.Replies.{accepts}
-use Rattle.napi_types.specs.parts.Attachments.{Attachments}
-use Rattle.napi_types.specs.parts.Book.{Book}
 use Rattle.napi_types.specs.parts.Frames.{caller_of, most_frames}
 use Rattle.napi_types.specs.parts.Heap.{Heap, handle_value}
 use Rattle.napi_types.specs.parts.HeapChanges.{with_handle, with_thrown, thrown_number}
-use Rattle.napi_types.specs.parts.Hooks.{Hook, hook_ticket}
-use Rattle.napi_types.specs.parts.InstanceData.{Instances}
+use Rattle.napi_types.specs.parts.Hooks.{hook_ticket}
 use Rattle.napi_types.specs.parts.References.{Reference, ReferenceMap, with_reference, without_reference, with_count}
 use Rattle.napi_types.specs.parts.Values.{undefined_value}
 use Rattle.napi_types.specs.environment.Calls.{effect, answer}
@@ -27,6 +24,7 @@ use Rattle.napi_types.specs.environment.ExceptionCalls.{with_pending, with_throw
 use Rattle.napi_types.specs.environment.HookCalls.{unhooked}
 use Rattle.napi_types.specs.environment.ReferenceCalls.{with_references}
 use Rattle.napi_types.specs.environment.Registering.{withdrawing}
+use Rattle.napi_types.specs.environment.Registry.{registry_of, with_registry}
 use Rattle.napi_types.proofs.environment.Answers.{KeepsButAsk, call_change-keeps}
 use Rattle.napi_types.proofs.environment.Cases.{answer-by}
 use Rattle.napi_types.proofs.environment.Effects as does
@@ -149,11 +147,13 @@ counted-good e r count g =
     (counted-map r count e.references g.references)
 
 -- ATTACHMENTS, HOOKS, INSTANCE DATA AND TICKETS
--- what else the environment has may change
-besides : (e d : Environment) (exit : Bool) (a : Attachments) (book : Book) (hooks : List Hook) (i : Instances) → LeadsToGood e d
-    → LeadsToGood e (record d { exit_asked = exit; attachments = a; book = book; hooks = hooks; instances = i })
-besides e d exit a book hooks i led =
-    record { good = record { heap = led.good.heap; referred = led.good.referred; references = led.good.references; pending = led.good.pending; rooted = led.good.rooted }; stay = led.stay }
+-- the registry may change, and whether exit was asked
+besides : (e d new : Environment) → new ≡ record (with_registry d (registry_of new)) { exit_asked = new.exit_asked } → LeadsToGood e d → LeadsToGood e new
+besides e d new alone led =
+    let g : IsConsistentButFrames d = led.good in
+    let same : LeadsToGood e (record (with_registry d (registry_of new)) { exit_asked = new.exit_asked }) =
+    record { good = record { heap = g.heap; referred = g.referred; references = g.references; pending = g.pending; rooted = g.rooted }; stay = led.stay } in
+    subst (λ (x : Environment). LeadsToGood e x) (sym alone) same
 
 -- CALLS
 does-good : (c : Call) (e : Environment) {made dropped : Option Duty} (d : Environment) → Effect c e made dropped d → IsConsistentButFrames e → LeadsToGood e d
@@ -187,16 +187,16 @@ does-good c e _ does.collects g = record {
   };
   stay = record { rises = omega arith; held = λ h v below. omega arith };
 }
-does-good c e _ (does.adds_hook entry argument) g = besides e e _ _ _ _ _ (unmoved e g)
+does-good c e _ (does.adds_hook entry argument) g = besides e e _ refl (unmoved e g)
 does-good c e _ (does.removes_hook entry argument) g =
     let t : Option ℕ = hook_ticket (caller_of e.frames) entry argument e.hooks in
     registered-by e.book t (λ s. LeadsToGood e (withdrawing s (accepts out.Nothing (record e { hooks = unhooked t e.hooks }))).after)
-    (besides e e _ _ _ _ _ (unmoved e g)) (λ n here is. besides e e _ _ _ _ _ (unmoved e g))
-does-good c e _ (does.withdraws t on is) g = besides e e _ _ _ _ _ (unmoved e g)
-does-good c e _ (does.asks_exit is) g = besides e e _ _ _ _ _ (unmoved e g)
-does-good c e _ (does.registers {d} payload entry hint before step) g = besides e d _ _ _ _ _ (does-good c e d before g)
-does-good c e _ (does.attaches {d} {a} before on) g = besides e d _ _ _ _ _ (does-good c e d before g)
-does-good c e _ (does.sets {d} i before on) g = besides e d _ _ _ _ _ (does-good c e d before g)
+    (besides e e _ refl (unmoved e g)) (λ n here is. besides e e _ refl (unmoved e g))
+does-good c e _ (does.withdraws t on is) g = besides e e _ refl (unmoved e g)
+does-good c e _ (does.asks_exit is) g = besides e e _ refl (unmoved e g)
+does-good c e _ (does.registers {d} payload entry hint before step) g = besides e d _ refl (does-good c e d before g)
+does-good c e _ (does.attaches {d} {a} before on) g = besides e d _ refl (does-good c e d before g)
+does-good c e _ (does.sets {d} i before on) g = besides e d _ refl (does-good c e d before g)
 
 answer-good : (e : Environment) (c : Call) (k : ℕ) → IsConsistentButFrames e → LeadsToGood e (answer e c k).after
 answer-good e c k g =

@@ -20,6 +20,7 @@ pub mod Owners
 pub mod ReferenceCalls
 pub mod Refusals
 pub mod Registering
+pub mod Registry
 pub mod Roots
 pub mod RunCalls
 pub mod SharedCalls

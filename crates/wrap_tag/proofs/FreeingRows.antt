@@ -24,28 +24,37 @@ use Rattle.wrap_tag.proofs.AttachingRows.{wrap_of-rows}
 use Rattle.wrap_tag.proofs.Dues.{due_where-none, due_where-due_where, due_where-same, given-among, given-due}
 
 -- OF ONE VALUE
--- the ticket of its wrap
-wrap_tickets-none : (v : ℕ) (ws : List Wrapped) → All (λ w. v < w.value) ws → filter_map (λ w. cond (w.value == v) w.ticket None) ws ≡ []
-wrap_tickets-none v [] above = refl
-wrap_tickets-none v (w ∷ ws) above =
-    ap (λ b. cons_option (cond b w.ticket None) (filter_map (λ u. cond (u.value == v) u.ticket None) ws)) (apart-above v w.value (All-head (λ u. v < u.value) w ws above))
-    ∙ wrap_tickets-none v ws (All-tail (λ u. v < u.value) w ws above)
+-- its wrap
+wraps-none : (v : ℕ) (ws : List Wrapped) → All (λ w. v < w.value) ws → filter (λ w. w.value == v) ws ≡ []
+wraps-none v [] above = refl
+wraps-none v (w ∷ ws) above =
+    ap (λ b. cond b (w ∷ filter (λ u. u.value == v) ws) (filter (λ u. u.value == v) ws)) (apart-above v w.value (All-head (λ u. v < u.value) w ws above))
+    ∙ wraps-none v ws (All-tail (λ u. v < u.value) w ws above)
 
-wrap_tickets : (v : ℕ) (ws : List Wrapped) → IsRising (λ w. w.value) ws → filter_map (λ w. cond (w.value == v) w.ticket None) ws ≡ option_to_list (option_and_then (λ w. w.ticket) (found (λ w. w.value) v ws))
-wrap_tickets v [] rises = refl
-wrap_tickets v (w ∷ ws) rises = by (w.value == v) (same-tells w.value v) (wrap_tickets v ws rises.1)
+wraps-one : (v : ℕ) (ws : List Wrapped) → IsRising (λ w. w.value) ws → filter (λ w. w.value == v) ws ≡ option_to_list (found (λ w. w.value) v ws)
+wraps-one v [] rises = refl
+wraps-one v (w ∷ ws) rises = by (w.value == v) (same-tells w.value v) (wraps-one v ws rises.1)
+  where
+    by : (b : Bool) → (b ≡ true → w.value ≡ v) → filter (λ u. u.value == v) ws ≡ option_to_list (found (λ u. u.value) v ws)
+        → cond b (w ∷ filter (λ u. u.value == v) ws) (filter (λ u. u.value == v) ws) ≡ option_to_list (cond b (Some w) (found (λ u. u.value) v ws))
+    by true same rest =
+        let is : w.value ≡ v = same refl in
+        let above : All (λ u. v < u.value) ws = λ k d within. omega (arith, is, rises.0 k d within) in
+        ap (λ us. w ∷ us) (wraps-none v ws above)
+    by false same rest = rest
+
+-- the ticket of its wrap
+wrap_tickets : (v : ℕ) (ws : List Wrapped) → IsRising (λ w. w.value) ws
+    → filter_map (λ w. w.ticket) (filter (λ w. w.value == v) ws) ≡ option_to_list (option_and_then (λ w. w.ticket) (found (λ w. w.value) v ws))
+wrap_tickets v ws rises = ap (filter_map (λ (w : Wrapped). w.ticket)) (wraps-one v ws rises) ∙ by (found (λ w. w.value) v ws)
   where
     here : (o : Option ℕ) → cons_option o [] ≡ option_to_list o
     here None = refl
     here (Some t) = refl
 
-    by : (b : Bool) → (b ≡ true → w.value ≡ v) → filter_map (λ u. cond (u.value == v) u.ticket None) ws ≡ option_to_list (option_and_then (λ u. u.ticket) (found (λ u. u.value) v ws))
-        → cons_option (cond b w.ticket None) (filter_map (λ u. cond (u.value == v) u.ticket None) ws) ≡ option_to_list (option_and_then (λ u. u.ticket) (cond b (Some w) (found (λ u. u.value) v ws)))
-    by true same rest =
-        let is : w.value ≡ v = same refl in
-        let above : All (λ u. v < u.value) ws = λ k d within. omega (arith, is, rises.0 k d within) in
-        ap (cons_option w.ticket) (wrap_tickets-none v ws above) ∙ here w.ticket
-    by false same rest = rest
+    by : (o : Option Wrapped) → filter_map (λ w. w.ticket) (option_to_list o) ≡ option_to_list (option_and_then (λ w. w.ticket) o)
+    by None = refl
+    by (Some w) = here w.ticket
 
 -- those beside it
 beside_tickets : (n v : ℕ) (rows : List (ℕ × ValueRow)) → AreRows rows → has attached_ticket n (filter (λ t. t.value == v) (as_map attached_ticket (attached rows))) ≡ is_attached n v rows
@@ -74,7 +83,7 @@ has-map number n (x ∷ xs) = ap (λ b. (number x == n) || b) (has-map number n 
 pub has-tickets_of : (n v : ℕ) (rows : List (ℕ × ValueRow)) → AreRows rows → has_number n (tickets_of (attachments_of rows) v) ≡ has_number n (tickets_of_row (unwrap_or (value_row v rows) blank_row))
 unfolding attachments_of
 has-tickets_of n v rows are =
-    list_any-append (λ m. m == n) (filter_map (λ w. cond (w.value == v) w.ticket None) (attachments_of rows).wraps) (map attached_ticket (filter (λ t. t.value == v) (attachments_of rows).tickets))
+    list_any-append (λ m. m == n) (filter_map (λ w. w.ticket) (filter (λ w. w.value == v) (attachments_of rows).wraps)) (map attached_ticket (filter (λ t. t.value == v) (attachments_of rows).tickets))
     ∙ ap (λ ns. has_number n ns || has_number n (map attached_ticket (filter (λ t. t.value == v) (attachments_of rows).tickets)))
     (wrap_tickets v (attachments_of rows).wraps (rising-as_map (λ w. w.value) (listed (λ w. w.value) wrap_in rows)) ∙ ap (λ (o : Option Wrapped). option_to_list (option_and_then (λ w. w.ticket) o)) (wrap_of-rows v rows are))
     ∙ ap (λ b. has_number n (option_to_list (option_and_then (λ (w : Wrapped). w.ticket) (option_and_then (wrap_in v) (value_row v rows)))) || b)
@@ -141,19 +150,27 @@ any-parted p q c (x ∷ xs) = by (p x) (q x && c x) (c x) refl (any-parted p q c
         ap (λ r. (q x && c x) || r) rest ∙ swapped (q x && c x) (list_any (λ y. p y && c y) xs) (list_any (λ y. q y && c y) (filter (λ y. not (p y)) xs))
 
 -- the same, of the tickets of values
-in_wraps : (n : ℕ) (test : ℕ → Bool) (ws : List Wrapped) → has_number n (filter_map (λ w. cond (test w.value) w.ticket None) ws) ≡ list_any (λ w. test w.value && has_number n (option_to_list w.ticket)) ws
+in_wraps : (n : ℕ) (test : ℕ → Bool) (ws : List Wrapped)
+    → has_number n (filter_map (λ w. w.ticket) (filter (λ w. test w.value) ws)) ≡ list_any (λ w. test w.value && has_number n (option_to_list w.ticket)) ws
 in_wraps n test [] = refl
-in_wraps n test (w ∷ ws) = by (test w.value) w.ticket ∙ ap (λ b. (test w.value && has_number n (option_to_list w.ticket)) || b) (in_wraps n test ws)
+in_wraps n test (w ∷ ws) = by (test w.value) ∙ ap (λ b. (test w.value && has_number n (option_to_list w.ticket)) || b) (in_wraps n test ws)
   where
-    by : (b : Bool) (o : Option ℕ) → has_number n (cons_option (cond b o None) (filter_map (λ u. cond (test u.value) u.ticket None) ws))
-        ≡ ((b && has_number n (option_to_list o)) || has_number n (filter_map (λ u. cond (test u.value) u.ticket None) ws))
-    by true None = refl
-    by true (Some t) = alone (t == n)
+    rest : List Wrapped
+    rest = filter (λ u. test u.value) ws
+
+    first : (o : Option ℕ) → has_number n (cons_option o (filter_map (λ u. u.ticket) rest))
+        ≡ (has_number n (option_to_list o) || has_number n (filter_map (λ u. u.ticket) rest))
+    first None = refl
+    first (Some t) = alone (t == n)
       where
-        alone : (c : Bool) → (c || has_number n (filter_map (λ u. cond (test u.value) u.ticket None) ws)) ≡ ((c || false) || has_number n (filter_map (λ u. cond (test u.value) u.ticket None) ws))
+        alone : (c : Bool) → (c || has_number n (filter_map (λ u. u.ticket) rest)) ≡ ((c || false) || has_number n (filter_map (λ u. u.ticket) rest))
         alone true = refl
         alone false = refl
-    by false o = refl
+
+    by : (b : Bool) → has_number n (filter_map (λ u. u.ticket) (cond b (w ∷ rest) rest))
+        ≡ ((b && has_number n (option_to_list w.ticket)) || has_number n (filter_map (λ u. u.ticket) rest))
+    by true = first w.ticket
+    by false = refl
 
 in_tickets : (n : ℕ) (test : ℕ → Bool) (ts : List Attached) → has_number n (map (λ t. t.ticket) (filter (λ t. test t.value) ts)) ≡ list_any (λ t. test t.value && (t.ticket == n)) ts
 in_tickets n test [] = refl
@@ -166,7 +183,7 @@ in_tickets n test (t ∷ ts) = by (test t.value) ∙ ap (λ b. (test t.value && 
 in_both : (n : ℕ) (test : ℕ → Bool) (a : Attachments)
     → has_number n (tickets_where test a) ≡ (list_any (λ w. test w.value && has_number n (option_to_list w.ticket)) a.wraps || list_any (λ t. test t.value && (t.ticket == n)) a.tickets)
 in_both n test a =
-    list_any-append (λ m. m == n) (filter_map (λ w. cond (test w.value) w.ticket None) a.wraps) (map (λ t. t.ticket) (filter (λ t. test t.value) a.tickets))
+    list_any-append (λ m. m == n) (filter_map (λ w. w.ticket) (filter (λ w. test w.value) a.wraps)) (map (λ t. t.ticket) (filter (λ t. test t.value) a.tickets))
     ∙ ap (λ b. b || has_number n (map (λ t. t.ticket) (filter (λ t. test t.value) a.tickets))) (in_wraps n test a.wraps)
     ∙ ap (λ b. list_any (λ w. test w.value && has_number n (option_to_list w.ticket)) a.wraps || b) (in_tickets n test a.tickets)
 

@@ -26,6 +26,7 @@ use Rattle.napi_types.specs.environment.Changes.{Change, may_call, book_in}
 use Rattle.napi_types.specs.environment.Ends.{duty_ended, end_change}
 use Rattle.napi_types.specs.environment.Entering.{enter_change, asked_change}
 use Rattle.napi_types.specs.environment.Environment.{Environment}
+use Rattle.napi_types.specs.environment.Registry.{registry_of}
 use Rattle.napi_types.specs.environment.SharedCalls.{shared_entry}
 use Rattle.napi_types.specs.hub.Hub.{Hub}
 use Rattle.napi_types.specs.hub.HubMoves.{HubMove, Delivers, Closes, Finishes}
@@ -44,7 +45,7 @@ use Rattle.napi_types.proofs.parts.BookSteps.{BookStep, stays, adds, drops, coll
 use Rattle.napi_types.proofs.parts.Books.{owed-cons, Leaves, withdrawn-leaves, leaves-in, due-keeps, ended-keeps, length-changed_where}
 use Rattle.napi_types.proofs.parts.Moved.{registration_at-changed_where, registration_at-new, registration_at-old}
 use Rattle.napi_types.proofs.environment.Answers.{call_change-keeps}
-use Rattle.napi_types.proofs.environment.FrameChanges.{book_left, ended-keeps as end_change-keeps, enter_change-keeps, hangings-parts}
+use Rattle.napi_types.proofs.environment.FrameChanges.{book_left, ended-keeps as end_change-keeps, enter_change-keeps, registry-parts}
 use Rattle.napi_types.proofs.environment.Cases.{asked-by, ended-by}
 use Rattle.napi_types.proofs.hub.HubDuties.{OfHub, SparesTickets, hub_step-spares}
 use Rattle.napi_types.proofs.runs.SharedSteps.{StandsStill, shares-still}
@@ -110,7 +111,8 @@ hub-left _ d b ours = hub-ended d b ours
 pub asked-is : (e : Environment) (c : Call) (n : ℕ) → EntryTickets e.book (asked_change e c n).entry (asked_change e c n).after.book
 asked-is e c n =
     asked-by e c n (λ d. EntryTickets e.book d.entry d.after.book) (called (caller_of e.frames) _ _ _ (call_change-keeps e c n).book)
-    (λ receiver f args none. nothing _ _ (hangings-parts e (enter_change receiver f args e).after (enter_change-keeps receiver f args e).hangings).book)
+    (λ receiver f args none.
+    nothing _ _ (registry-parts (registry_of e) (enter_change receiver f args e).after (enter_change-keeps receiver f args e).registry).book)
 
 -- an entry of the hub
 hub-is : (b : Book) (h : Hub) (x : Entry) (c : Book) → IsTrue (hub_step h x).may → c ≡ b → EntryDuties b (hub_step h x).entry c
@@ -121,7 +123,7 @@ hub-is b h x c may same =
     (of_hub y.reply.made (begun_duty y.what y.reply.out) c spares.made spares.begun same)
 
 still-is : (m n : Machine) → StandsStill m n → n.env.book ≡ m.env.book
-still-is m n still = (hangings-parts m.env n.env still.hangings).book
+still-is m n still = (registry-parts (registry_of m.env) n.env still.registry).book
 
 move-is : (m : Machine) (move : HubMove) → IsTrue (move_step m move).may → EntryDuties m.env.book (move_step m move).entry (move_step m move).after.env.book
 move-is m (Delivers d) may = hub-is m.env.book m.hub (delivery_entry d) m.env.book may refl

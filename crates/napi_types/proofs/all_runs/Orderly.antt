@@ -20,6 +20,7 @@ use Rattle.napi_types.specs.environment.Entering.{asked_change}
 use Rattle.napi_types.specs.environment.Environment.{Environment}
 use Rattle.napi_types.specs.environment.Hooked.{is_late, IsHooked}
 use Rattle.napi_types.specs.environment.Moments.{is_tearing}
+use Rattle.napi_types.specs.environment.Registry.{registry_of}
 use Rattle.napi_types.specs.hub.Hub.{IsStageOf}
 use Rattle.napi_types.specs.runs.Machine.{Machine}
 use Rattle.napi_types.specs.runs.Setting.{Setting, opens_with, opening_of, final_of}
@@ -29,7 +30,7 @@ use Rattle.napi_types.proofs.parts.Books.{NoneRegistered, all_due-none}
 use Rattle.napi_types.proofs.parts.Moved.{at-state, at-cause}
 use Rattle.napi_types.proofs.parts.Moves.{MovesKeep, each-kept, unowed-moved}
 use Rattle.napi_types.proofs.environment.Answers.{SameCourse, course-parts}
-use Rattle.napi_types.proofs.environment.FrameChanges.{SameHangings, hangings-parts, ended-keeps, asked_change-fits}
+use Rattle.napi_types.proofs.environment.FrameChanges.{HasRegistry, registry-parts, ended-keeps, asked_change-fits}
 use Rattle.napi_types.proofs.environment.FrameEnds.{ended-ends}
 use Rattle.napi_types.proofs.environment.HookedSteps.{unchanged, hooked-opening, hooked-opened, hooked-init, hooked-asked, hooked-ended, hooked-begun, hooked-phase, hooked-gone}
 use Rattle.napi_types.proofs.environment.Registrations.{asked-kept, ended-kept, begun-kept, phase-kept, torn-new, none-asked, none-ended, none-begun}
@@ -115,10 +116,10 @@ spent-asked e c n tearing all = asked-kept (All IsSpent) spent-kept e c n (torn-
 -- nothing of it changes
 orderly-still : (m n : Machine) → StandsStill m n → Orderly m → Orderly n
 orderly-still m n still h =
-    let same : SameHangings m.env n.env = hangings-parts m.env n.env still.hangings in
+    let same : HasRegistry (registry_of m.env) n.env = registry-parts (registry_of m.env) n.env still.registry in
     record {
       stage = still-in-phase m n still.phase still.stage h.stage;
-      hooked = unchanged m.env n.env still.phase still.hangings h.hooked;
+      hooked = unchanged m.env n.env still.phase still.registry h.hooked;
       settled = λ p. subst NoneRegistered (sym same.book) (h.settled (ap is_late (sym still.phase) ∙ p));
       spent = λ p. subst (λ book. All IsSpent book) (sym same.book) (h.spent (ap is_drained (sym still.phase) ∙ p));
     }

@@ -33,6 +33,7 @@ use Rattle.napi_types.specs.environment.Entering.{asked_change}
 use Rattle.napi_types.specs.environment.Environment.{Environment}
 use Rattle.napi_types.specs.environment.Hooked.{is_late, StandsIn, IsHooked}
 use Rattle.napi_types.specs.environment.Moments.{is_tearing}
+use Rattle.napi_types.specs.environment.Registry.{registry_of}
 use Rattle.napi_types.specs.environment.SharedCalls.{shared_entry}
 use Rattle.napi_types.specs.environment.Tickets.{hooks_left, ticket_in}
 use Rattle.napi_types.specs.hub.Hub.{Hub}
@@ -49,7 +50,7 @@ use Rattle.napi_types.proofs.plain.Found.{has-found, found-filter}
 use Rattle.napi_types.proofs.parts.Books.{NoneRegistered, withdrawn-leaves, leaves-in}
 use Rattle.napi_types.proofs.parts.Moved.{at-state, at-cause}
 use Rattle.napi_types.proofs.environment.Answers.{course-parts}
-use Rattle.napi_types.proofs.environment.FrameChanges.{SameHangings, hangings-parts, KeepsButFrame, ended-keeps, asked_change-fits}
+use Rattle.napi_types.proofs.environment.FrameChanges.{HasRegistry, registry-parts, KeepsButFrame, ended-keeps, asked_change-fits}
 use Rattle.napi_types.proofs.environment.FrameEnds.{ended-ends}
 use Rattle.napi_types.proofs.environment.Registrations.{registered-holds}
 use Rattle.napi_types.proofs.environment.TornBooks.{NoneMore, asked-more, left-more, begun-more, left-above}
@@ -266,7 +267,7 @@ ended-fewer e v cut n may =
 -- nor where all of it stays
 still-fewer : (m n : Machine) → StandsStill m n → (t : ℕ) → MayBeginAt n.env t → MayBeginAt m.env t
 still-fewer m n still t may =
-    let same : SameHangings m.env n.env = hangings-parts m.env n.env still.hangings in
+    let same : HasRegistry (registry_of m.env) n.env = registry-parts (registry_of m.env) n.env still.registry in
     phase-stays m.env.phase n.env.phase m.env.hooks n.env.hooks t still.phase (λ p is. ap (λ hooks. has (λ (h : Hook). h.ticket) t hooks) (sym same.hooks) ∙ is) may
 
 -- after a step no hook may begin that might not before
@@ -364,7 +365,7 @@ ended-due e v cut none n due =
     (left-more c d e.book).due none n (ap (λ b. is_at is_due b n) (sym (ended-keeps v cut e).book) ∙ due)
 
 still-due : (m n : Machine) → StandsStill m n → (t : ℕ) → is_at is_due n.env.book t ≡ true → is_at is_due m.env.book t ≡ true
-still-due m n still t due = ap (λ book. is_at is_due book t) (sym (hangings-parts m.env n.env still.hangings).book) ∙ due
+still-due m n still t due = ap (λ book. is_at is_due book t) (sym (registry-parts (registry_of m.env) n.env still.registry).book) ∙ due
 
 due-fewer : (m : Machine) (s : Step) → Orderly m → StepCase m s → is_late m.env.phase ≡ true → (n : ℕ) → is_at is_due s.after.env.book n ≡ true → is_at is_due m.env.book n ≡ true
 due-fewer m _ h (calls c n may alone) late = (asked-more m.env c n (late-tears m.env.phase late)).due (h.settled late)

@@ -1,5 +1,5 @@
 -- What the begin and the end of frames keep.
-use Rattle.std.proofs.Common.{◌≡◌, ◌≤◌, ℕ, suc, ◌+◌, ◌*◌, false, List, ◌∷◌, length, refl, ap, Option, Some, None, arith, is_none, is_some}
+use Rattle.std.proofs.Common.{◌≡◌, ◌≤◌, ℕ, suc, ◌+◌, ◌*◌, false, ◌∷◌, length, refl, ap, Option, Some, None, arith, is_none, is_some}
 use Rattle.napi_types.specs.declared.call.Args.{Args}
 use Rattle.napi_types.specs.declared.call.Call.{Call}
 use Rattle.napi_types.specs.declared.call.Call.TheVariants as call
@@ -13,44 +13,33 @@ use Rattle.napi_types.specs.declared.ids.HandleId.{HandleId}
 use Rattle.napi_types.specs.declared.status.Status.{Status}
 use Rattle.napi_types.specs.plain.Lists.{tail}
 use Rattle.napi_types.specs.plain.Room.{one_if, need}
-use Rattle.napi_types.specs.parts.Attachments.{Attachments}
 use Rattle.napi_types.specs.parts.Book.{Book, owed_tickets}
 use Rattle.napi_types.specs.parts.Frames.{caller_of, cause_of, duty_of, ask_counted, local_frames}
 use Rattle.napi_types.specs.parts.FunctionCalls.{callee_of}
-use Rattle.napi_types.specs.parts.Hooks.{Hook}
-use Rattle.napi_types.specs.parts.InstanceData.{Instances}
 use Rattle.napi_types.specs.environment.Changes.{call_change}
 use Rattle.napi_types.specs.environment.Ends.{duty_ended, end_change_by, uncut_call_end, end_change}
 use Rattle.napi_types.specs.environment.Entering.{is_entering, enter_change, function_change, asked_change}
 use Rattle.napi_types.specs.environment.Environment.{Environment}
 use Rattle.napi_types.specs.environment.Refusals.{refusal}
+use Rattle.napi_types.specs.environment.Registry.{Registry, registry_of}
 use Rattle.napi_types.proofs.parts.BookSteps.{step-owed}
 use Rattle.napi_types.proofs.parts.Books.{owed-ended}
 use Rattle.napi_types.proofs.environment.Answers.{course_of, KeepsButAsk, call_change-keeps, local-counted}
 
--- WHAT IS ATTACHED
--- what is registered, and what it hangs on: all that is attached to values, the book of the tickets, the hooks, and the instance data
-pub record Hangings : Type 0 where
-  pub attachments : Attachments
-  pub book : Book
-  pub hooks : List Hook
-  pub instances : Instances
+-- THE REGISTRY
+-- an environment has the parts of a registry
+pub record HasRegistry (r : Registry) (e : Environment) : Type 0 where
+  pub attachments : e.attachments ≡ r.attachments
+  pub book : e.book ≡ r.book
+  pub hooks : e.hooks ≡ r.hooks
+  pub instances : e.instances ≡ r.instances
 
-abbrev pub hangings_of : Environment → Hangings
-hangings_of e = record { attachments = e.attachments; book = e.book; hooks = e.hooks; instances = e.instances }
-
-pub record SameHangings (old new : Environment) : Type 0 where
-  pub attachments : new.attachments ≡ old.attachments
-  pub book : new.book ≡ old.book
-  pub hooks : new.hooks ≡ old.hooks
-  pub instances : new.instances ≡ old.instances
-
-pub hangings-parts : (old new : Environment) → hangings_of new ≡ hangings_of old → SameHangings old new
-hangings-parts old new same = record {
-  attachments = ap (λ (h : Hangings). h.attachments) same;
-  book = ap (λ (h : Hangings). h.book) same;
-  hooks = ap (λ (h : Hangings). h.hooks) same;
-  instances = ap (λ (h : Hangings). h.instances) same;
+pub registry-parts : (r : Registry) (e : Environment) → registry_of e ≡ r → HasRegistry r e
+registry-parts r e same = record {
+  attachments = ap (λ (s : Registry). s.attachments) same;
+  book = ap (λ (s : Registry). s.book) same;
+  hooks = ap (λ (s : Registry). s.hooks) same;
+  instances = ap (λ (s : Registry). s.instances) same;
 }
 
 -- THE END OF A FRAME
@@ -113,11 +102,13 @@ pub record KeepsAndEnters (old new : Environment) (f : HandleId) : Type 0 where
   pub handles : new.heap.handles ≤ old.heap.handles + 1
   pub scope_numbers : new.heap.scope_numbers ≡ old.heap.scope_numbers
   pub references : new.references ≡ old.references
-  pub hangings : hangings_of new ≡ hangings_of old
+  pub registry : registry_of new ≡ registry_of old
 
 pub enter_change-keeps : (receiver : Option HandleId) (f : HandleId) (args : Args) (e : Environment) → KeepsAndEnters e (enter_change receiver f args e).after f
-enter_change-keeps None f args e = record { course = refl; frames = refl; values = refl; made = refl; handles = omega arith; scope_numbers = refl; references = refl; hangings = refl }
-enter_change-keeps (Some h) f args e = record { course = refl; frames = refl; values = refl; made = refl; handles = omega arith; scope_numbers = refl; references = refl; hangings = refl }
+enter_change-keeps None f args e =
+    record { course = refl; frames = refl; values = refl; made = refl; handles = omega arith; scope_numbers = refl; references = refl; registry = refl }
+enter_change-keeps (Some h) f args e =
+    record { course = refl; frames = refl; values = refl; made = refl; handles = omega arith; scope_numbers = refl; references = refl; registry = refl }
 
 -- WHAT A CALL COMES TO
 -- a call that enters no frame answers at once
@@ -160,7 +151,7 @@ function_change-fits receiver f args n e None =
     record {
       course = k.course;
       owed = two (length (local_frames new.frames)) (length (local_frames e.frames)) (length (local_frames (ask_counted e.frames))) (owed_tickets new.book) (owed_tickets e.book)
-          (ap (λ fs. length (local_frames fs)) k.frames) (local-counted e.frames) (ap owed_tickets (hangings-parts e new k.hangings).book);
+          (ap (λ fs. length (local_frames fs)) k.frames) (local-counted e.frames) (ap owed_tickets (registry-parts (registry_of e) new k.registry).book);
     }
   where
     two : (a b c w v : ℕ) → a ≡ suc c → c ≡ b → w ≡ v → a + 2 * w + 1 ≤ b + 2 * v + 2

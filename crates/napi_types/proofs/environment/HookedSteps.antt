@@ -31,16 +31,17 @@ use Rattle.napi_types.specs.environment.Environment.{Environment, OpenedWith, ne
 use Rattle.napi_types.specs.environment.HookCalls.{hook_registration, hooking, unhooking}
 use Rattle.napi_types.specs.environment.Hooked.{is_late, StandsIn, HasFinalizer, IsHooked}
 use Rattle.napi_types.specs.environment.Registering.{finalizer_of, withdrawing}
+use Rattle.napi_types.specs.environment.Registry.{registry_of}
 use Rattle.napi_types.specs.environment.Roots.{reach}
 use Rattle.napi_types.specs.environment.Tickets.{hooks_left, ticket_change}
 use Rattle.napi_types.proofs.plain.Maps.{filter_all}
-use Rattle.napi_types.proofs.parts.AttachedTickets.{HoldsAttached, HoldsAttached-from, tickets_where-holds, wrap_ticket-holds, HoldsAttached-with_wrap, HoldsAttached-without_wrap, HoldsAttached-with_attached, HoldsAttached-left_on, HoldsAttached-weaker}
+use Rattle.napi_types.proofs.parts.AttachedTickets.{HoldsAttached, HoldsAttached-from, tickets_in-holds, tickets_where-holds, wrap_ticket-holds, HoldsAttached-with_wrap, HoldsAttached-without_wrap, HoldsAttached-with_attached, HoldsAttached-left_on, HoldsAttached-weaker}
 use Rattle.napi_types.proofs.parts.Books.{withdrawn-leaves, leaves-in}
 use Rattle.napi_types.proofs.parts.Moved.{at-state}
 use Rattle.napi_types.proofs.environment.Answers.{course-parts}
 use Rattle.napi_types.proofs.environment.Effects as does
 use Rattle.napi_types.proofs.environment.Effects.{Finalizes, HangsOn, Attaches, Effect, effect-of}
-use Rattle.napi_types.proofs.environment.FrameChanges.{hangings_of, hangings-parts, SameHangings, book_left, KeepsButFrame, ended-keeps, KeepsAndEnters, enter_change-keeps}
+use Rattle.napi_types.proofs.environment.FrameChanges.{HasRegistry, registry-parts, book_left, KeepsButFrame, ended-keeps, KeepsAndEnters, enter_change-keeps}
 use Rattle.napi_types.proofs.environment.HookedBooks.{KeepsCauses, BookGoes, every_ticket, all_but_ticket, HooksAgree, goes-nowhere, late-goes, push-goes, push-causes, changed-causes, finalizers-go, begun-goes, left-goes, ticket-goes, listed-goes, listed-push, listed-within}
 use Rattle.napi_types.proofs.environment.Cases.{answer-by, asked-by}
 
@@ -66,7 +67,8 @@ attached : (e : Environment) → IsHooked e → HoldsAttached (Finalizes e.book)
 attached e h = HoldsAttached-from (Finalizes e.book) e.attachments h.attached
 
 hooked-by : (e : Environment) → HooksAgree e.phase e.book e.hooks → HoldsAttached (Finalizes e.book) e.attachments → All (HasFinalizer e.book) e.instances → IsHooked e
-hooked-by e l on is = record { rise = l.rise; hooks = l.stand; others = l.others; attached = tickets_where-holds (Finalizes e.book) e.attachments on (λ v. true); instances = is }
+hooked-by e l on is =
+    record { rise = l.rise; hooks = l.stand; others = l.others; attached = tickets_in-holds (Finalizes e.book) e.attachments on; instances = is }
 
 -- the book goes a step, and the hooks stay whose tickets pass
 hooked-goes : (old new : Environment) (stays : ℕ → Bool) → (is_late new.phase ≡ false → is_late old.phase ≡ false) → BookGoes new.phase stays old.book new.book
@@ -81,13 +83,13 @@ all-stay : (hooks : List Hook) → hooks ≡ filter (λ h. every_ticket h.ticket
 all-stay hooks = sym (filter_all (λ (h : Hook). every_ticket h.ticket) hooks (λ k d inside. refl))
 
 -- nothing of it changes
-hooked-same : (old new : Environment) → new.phase ≡ old.phase → SameHangings old new → IsHooked old → IsHooked new
+hooked-same : (old new : Environment) → new.phase ≡ old.phase → HasRegistry (registry_of old) new → IsHooked old → IsHooked new
 hooked-same old new phase same h =
     let goes : BookGoes new.phase every_ticket old.book new.book = subst (λ b. BookGoes new.phase every_ticket old.book b) (sym same.book) (goes-nowhere new.phase old.book) in
     hooked-goes old new every_ticket (λ early. ap is_late (sym phase) ∙ early) goes (same.hooks ∙ all-stay old.hooks) same.attachments same.instances h
 
-pub unchanged : (old new : Environment) → new.phase ≡ old.phase → hangings_of new ≡ hangings_of old → IsHooked old → IsHooked new
-unchanged old new phase same h = hooked-same old new phase (hangings-parts old new same) h
+pub unchanged : (old new : Environment) → new.phase ≡ old.phase → registry_of new ≡ registry_of old → IsHooked old → IsHooked new
+unchanged old new phase same h = hooked-same old new phase (registry-parts (registry_of old) new same) h
 
 -- one thing changes alone
 hooked-book : (e : Environment) (book : Book) → BookGoes e.phase every_ticket e.book book → IsHooked e → IsHooked (record e { book = book })
@@ -202,7 +204,7 @@ pub hooked-entered : (receiver : Option HandleId) (f : HandleId) (args : Args) (
 hooked-entered receiver f args e h =
     let new : Environment = (enter_change receiver f args e).after in
     let k : KeepsAndEnters e new f = enter_change-keeps receiver f args e in
-    unchanged e new (course-parts e new k.course).phase k.hangings h
+    unchanged e new (course-parts e new k.course).phase k.registry h
 
 pub hooked-asked : (e : Environment) (c : Call) (n : ℕ) → IsHooked e → IsHooked (asked_change e c n).after
 hooked-asked e c n h = asked-by e c n (λ d. IsHooked d.after) (hooked-called e c n h) (λ receiver f args none. hooked-entered receiver f args e h)
@@ -231,9 +233,9 @@ pub hooked-ended : (v : Option HandleId) (cut : Option Why) (e : Environment) �
 hooked-ended v cut e h =
     let new : Environment = (end_change v cut e).after in
     let k : KeepsButFrame e new = ended-keeps v cut e in
-    let same : SameHangings (record e { book = book_left (cause_of e.frames) (duty_of e.frames) e.book }) new =
-    record { attachments = k.attachments; book = k.book; hooks = k.hooks; instances = k.instances } in
-    hooked-same _ new (course-parts e new k.course).phase same (hooked-book e _ (left-goes e.phase (cause_of e.frames) (duty_of e.frames) e.book) h)
+    let left : Environment = record e { book = book_left (cause_of e.frames) (duty_of e.frames) e.book } in
+    let same : HasRegistry (registry_of left) new = record { attachments = k.attachments; book = k.book; hooks = k.hooks; instances = k.instances } in
+    hooked-same left new (course-parts e new k.course).phase same (hooked-book e _ (left-goes e.phase (cause_of e.frames) (duty_of e.frames) e.book) h)
 
 -- in Hooks what begins is taken off the list; in every other phase it was due, and is no hook that is registered
 begun-hooked : (p : Phase) (n : ℕ) (r : Registration) (e : Environment) → registration_at e.book n ≡ Some r → may_begin_in p r.state ≡ true → IsHooked e

@@ -43,6 +43,7 @@ use Rattle.napi_types.specs.environment.Moments.{moment_refusal}
 use Rattle.napi_types.specs.environment.Owners.{BelongsTo, IsOwned}
 use Rattle.napi_types.specs.environment.Refusals.{timely_refusal, early_refusal, depth_refusal, refusal, group_refusal}
 use Rattle.napi_types.specs.environment.Registering.{withdrawing}
+use Rattle.napi_types.specs.environment.Registry.{registry_of}
 use Rattle.napi_types.specs.environment.Roots.{reach}
 use Rattle.napi_types.specs.environment.Tickets.{ticket_change}
 use Rattle.napi_types.proofs.plain.Conditions.{and-left, and-right, not-true}
@@ -51,7 +52,7 @@ use Rattle.napi_types.proofs.parts.Moves.{MovesKeep, each-kept}
 use Rattle.napi_types.proofs.environment.Answers.{answer-keeps}
 use Rattle.napi_types.proofs.environment.Effects as does
 use Rattle.napi_types.proofs.environment.Effects.{Effect, registered-by, effect-of}
-use Rattle.napi_types.proofs.environment.FrameChanges.{KeepsButFrame, ended-keeps, KeepsAndEnters, enter_change-keeps, hangings-parts}
+use Rattle.napi_types.proofs.environment.FrameChanges.{KeepsButFrame, ended-keeps, KeepsAndEnters, enter_change-keeps, registry-parts}
 use Rattle.napi_types.proofs.environment.Registrations.{registered-holds, call-kept, ended-kept, begun-kept, phase-kept}
 use Rattle.napi_types.proofs.environment.Cases.{answer-by, asked-by}
 
@@ -218,7 +219,7 @@ enter_change-owned n e receiver f args h o =
     record {
       frames = subst P (sym k.frames) (All-cons (Below n) (callee_of e.heap f) (ask_counted e.frames) (callee-owned n e receiver f args h o) (counted-owned n e.frames o.frames));
       functions = subst Q (sym k.values) o.functions;
-      tickets = subst (λ b. All (Entered n) b) (sym (hangings-parts e (enter_change receiver f args e).after k.hangings).book) o.tickets;
+      tickets = subst (λ b. All (Entered n) b) (sym (registry-parts (registry_of e) (enter_change receiver f args e).after k.registry).book) o.tickets;
     }
 
 -- EVERY EVENT

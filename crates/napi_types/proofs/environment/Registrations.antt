@@ -21,12 +21,13 @@ use Rattle.napi_types.specs.environment.Ends.{end_change}
 use Rattle.napi_types.specs.environment.Entering.{enter_change, asked_change}
 use Rattle.napi_types.specs.environment.Environment.{Environment}
 use Rattle.napi_types.specs.environment.Moments.{is_tearing}
+use Rattle.napi_types.specs.environment.Registry.{registry_of}
 use Rattle.napi_types.proofs.plain.Lists.{none-there}
 use Rattle.napi_types.proofs.parts.BookSteps.{BookStep, stays, adds, drops, collects, swaps}
 use Rattle.napi_types.proofs.parts.Books.{NoneRegistered, owed-due_where}
 use Rattle.napi_types.proofs.parts.Moves.{Falls, Withdraws, Begins, Ends, unregistered-moved, MovesKeep, each-kept, changed_where-both}
 use Rattle.napi_types.proofs.environment.Answers.{call_change-keeps, torn-makes-none}
-use Rattle.napi_types.proofs.environment.FrameChanges.{book_left, hangings-parts, ended-keeps, enter_change-keeps}
+use Rattle.napi_types.proofs.environment.FrameChanges.{book_left, registry-parts, ended-keeps, enter_change-keeps}
 use Rattle.napi_types.proofs.environment.Cases.{asked-by}
 
 -- what holds of every registration holds of what is under a ticket
@@ -68,7 +69,8 @@ module _ (Q : Book → Type 0) (kept : MovesKeep Q) where
       → Q (asked_change e c n).after.book
   asked-kept e c n new q =
       asked-by e c n (λ d. Q d.after.book) (call-kept e c n new q)
-      (λ receiver f args none. same-book _ _ (hangings-parts e (enter_change receiver f args e).after (enter_change-keeps receiver f args e).hangings).book q)
+      (λ receiver f args none.
+      same-book _ _ (registry-parts (registry_of e) (enter_change receiver f args e).after (enter_change-keeps receiver f args e).registry).book q)
 
   pub ended-kept : (e : Environment) (v : Option HandleId) (cut : Option Why) → Q e.book → Q (end_change v cut e).after.book
   ended-kept e v cut q =

@@ -1,5 +1,5 @@
 -- What holds of the tickets of all that is attached to values.
-use Rattle.std.proofs.Common.{◌≡◌, ◌∙◌, ℕ, ◌==◌, Bool, true, false, not, cond, List, [], ◌∷◌, map, filter, filter_map, Option, Some, None, IfSome, refl, sym, subst}
+use Rattle.std.proofs.Common.{◌≡◌, ◌∙◌, ℕ, ◌==◌, Bool, true, not, List, [], ◌∷◌, map, filter_map, Option, Some, None, IfSome, refl, sym, subst}
 use Rattle.std.specs.List.{All, cons_option}
 use Rattle.std.specs.Option.{option_and_then}
 use Rattle.std.proofs.lemmas.Bool.{or_left, or_right}
@@ -7,7 +7,7 @@ use Rattle.std.proofs.lemmas.List.Elements.{All-nil, All-cons, All-head, All-tai
 use Rattle.std.proofs.lemmas.List.Folds.{list_any-append}
 use Rattle.std.proofs.lemmas.Option.{IfSome_then}
 use Rattle.napi_types.specs.plain.Lists.{has_number}
-use Rattle.napi_types.specs.parts.Attachments.{Attachments, Wrapped, Attached, tickets_where, left_on, wrap_of, wrap_ticket, with_wrap, without_wrap, with_attached}
+use Rattle.napi_types.specs.parts.Attachments.{Attachments, Wrapped, Attached, attached_where, tickets_in, tickets_where, left_on, wrap_of, wrap_ticket, with_wrap, without_wrap, with_attached}
 use Rattle.napi_types.proofs.plain.Found.{found-All}
 use Rattle.napi_types.proofs.plain.Maps.{All-with_record, among-holds, all-among}
 
@@ -38,38 +38,47 @@ module _ (P : ℕ → Type 0) where
       by None is here later = with_ticket None is tt (later here)
       by (Some n) is here later = with_ticket (Some n) is (All-head P n rest here) (later (All-tail P n rest here))
 
-  tickets-from : (ts : List Attached) → All P (map (λ t. t.ticket) (filter (λ t. true) ts)) → All (TicketHolds P) ts
+  tickets-from : (ts : List Attached) → All P (map (λ t. t.ticket) ts) → All (TicketHolds P) ts
   tickets-from [] all = All-nil (TicketHolds P)
   tickets-from (t ∷ ts) all = All-cons (TicketHolds P) t ts (All-head P t.ticket _ all) (tickets-from ts (All-tail P t.ticket _ all))
 
-  pub HoldsAttached-from : (a : Attachments) → ((n : ℕ) → has_number n (tickets_where (λ v. true) a) ≡ true → P n) → HoldsAttached P a
+  pub HoldsAttached-from : (a : Attachments) → ((n : ℕ) → has_number n (tickets_in a) ≡ true → P n) → HoldsAttached P a
   HoldsAttached-from a holds =
       let ws : List ℕ = filter_map (λ w. w.ticket) a.wraps in
-      let ts : List ℕ = map (λ t. t.ticket) (filter (λ t. true) a.tickets) in
+      let ts : List ℕ = map (λ t. t.ticket) a.tickets in
       record {
         wraps = wraps-from a.wraps (all-among P ws (λ n here. holds n (list_any-append (λ m. m == n) ws ts ∙ or_left (has_number n ws) (has_number n ts) here)));
         tickets = tickets-from a.tickets (all-among P ts (λ n here. holds n (list_any-append (λ m. m == n) ws ts ∙ or_right (has_number n ws) (has_number n ts) here)));
       }
 
-  -- OF SOME TICKETS
-  pub wraps-where : (test : ℕ → Bool) (ws : List Wrapped) → All (WrapHolds P) ws → All P (filter_map (λ w. cond (test w.value) w.ticket None) ws)
-  wraps-where test [] all = All-nil P
-  wraps-where test (w ∷ ws) all = by (test w.value) w.ticket (All-head (WrapHolds P) w ws all) (wraps-where test ws (All-tail (WrapHolds P) w ws all))
+  wraps-tickets : (ws : List Wrapped) → All (WrapHolds P) ws → All P (filter_map (λ w. w.ticket) ws)
+  wraps-tickets [] all = All-nil P
+  wraps-tickets (w ∷ ws) all = by w.ticket (All-head (WrapHolds P) w ws all) (wraps-tickets ws (All-tail (WrapHolds P) w ws all))
     where
       rest : List ℕ
-      rest = filter_map (λ x. cond (test x.value) x.ticket None) ws
+      rest = filter_map (λ x. x.ticket) ws
 
-      by : (b : Bool) (o : Option ℕ) → IfSome o P → All P rest → All P (cons_option (cond b o None) rest)
-      by true (Some n) here later = All-cons P n rest here later
-      by true None here later = later
-      by false o here later = later
+      by : (o : Option ℕ) → IfSome o P → All P rest → All P (cons_option o rest)
+      by (Some n) here later = All-cons P n rest here later
+      by None here later = later
 
-  pub tickets-where : (test : ℕ → Bool) (ts : List Attached) → All (TicketHolds P) ts → All P (map (λ t. t.ticket) (filter (λ t. test t.value) ts))
-  tickets-where test ts all = All-map P (λ (t : Attached). t.ticket) (filter (λ t. test t.value) ts) (All-filter (λ t. test t.value) (TicketHolds P) ts all)
+  pub All-tickets_in : (a : Attachments) → HoldsAttached P a → All P (tickets_in a)
+  All-tickets_in a h = All-append P _ _ (wraps-tickets a.wraps h.wraps) (All-map P (λ (t : Attached). t.ticket) a.tickets h.tickets)
 
-  -- those of the values that pass a test
+  pub tickets_in-holds : (a : Attachments) → HoldsAttached P a → (n : ℕ) → has_number n (tickets_in a) ≡ true → P n
+  tickets_in-holds a h n here = among-holds P (tickets_in a) n (All-tickets_in a h) here
+
+  -- OF SOME TICKETS
+  -- what is attached to the values that pass a test
+  pub HoldsAttached-where : (test : ℕ → Bool) (a : Attachments) → HoldsAttached P a → HoldsAttached P (attached_where test a)
+  HoldsAttached-where test a h = record {
+    wraps = All-filter (λ w. test w.value) (WrapHolds P) a.wraps h.wraps;
+    tickets = All-filter (λ t. test t.value) (TicketHolds P) a.tickets h.tickets;
+  }
+
+  -- their tickets
   pub tickets_where-holds : (a : Attachments) → HoldsAttached P a → (test : ℕ → Bool) (n : ℕ) → has_number n (tickets_where test a) ≡ true → P n
-  tickets_where-holds a h test n here = among-holds P (tickets_where test a) n (All-append P _ _ (wraps-where test a.wraps h.wraps) (tickets-where test a.tickets h.tickets)) here
+  tickets_where-holds a h test n here = tickets_in-holds (attached_where test a) (HoldsAttached-where test a h) n here
 
   -- that of a value's wrap
   pub wrap_ticket-holds : (a : Attachments) (v : ℕ) → HoldsAttached P a → IfSome (wrap_ticket a v) P
@@ -96,10 +105,7 @@ module _ (P : ℕ → Type 0) where
   }
 
   pub HoldsAttached-left_on : (freed : ℕ → Bool) (a : Attachments) → HoldsAttached P a → HoldsAttached P (left_on freed a)
-  HoldsAttached-left_on freed a h = record {
-    wraps = All-filter (λ w. not (freed w.value)) (WrapHolds P) a.wraps h.wraps;
-    tickets = All-filter (λ t. not (freed t.value)) (TicketHolds P) a.tickets h.tickets;
-  }
+  HoldsAttached-left_on freed a h = HoldsAttached-where (λ v. not (freed v)) a h
 
 pub HoldsAttached-weaker : (P Q : ℕ → Type 0) → ((n : ℕ) → P n → Q n) → (a : Attachments) → HoldsAttached P a → HoldsAttached Q a
 HoldsAttached-weaker P Q weaker a h = record {

@@ -16,6 +16,7 @@ use Rattle.napi_types.specs.declared.entry.What.TheVariants as what
 use Rattle.napi_types.specs.plain.Entries.{host_entry, is_environment, is_begin, is_finals}
 use Rattle.napi_types.specs.environment.Changes.{with_noted_status}
 use Rattle.napi_types.specs.environment.Environment.{Environment}
+use Rattle.napi_types.specs.environment.Registry.{registry_of}
 use Rattle.napi_types.specs.environment.SharedCalls.{shared_entry, with_root, after_shared}
 use Rattle.napi_types.specs.hub.Hub.{Hub}
 use Rattle.napi_types.specs.hub.HubCalls.{is_thread_call}
@@ -27,7 +28,6 @@ use Rattle.napi_types.specs.hub.WorkerSteps.{worker_step, worker_event}
 use Rattle.napi_types.specs.hub.HubSteps.{hub_step, hub_step_of, environment_step}
 use Rattle.napi_types.specs.runs.Machine.{Machine}
 use Rattle.napi_types.specs.runs.Step.{answered_by, move_step, other_step}
-use Rattle.napi_types.proofs.environment.FrameChanges.{hangings_of}
 use Rattle.napi_types.proofs.hub.HubKeeps.{given-keeps, other-keeps, thread-calls}
 use Rattle.napi_types.proofs.hub.HubHolds.{duty-stage}
 
@@ -72,7 +72,7 @@ finish-stage h x _ = refl
 pub record StandsStill (m n : Machine) : Type 0 where
   pub stage : n.hub.stage ≡ m.hub.stage
   pub phase : n.env.phase ≡ m.env.phase
-  pub hangings : hangings_of n.env ≡ hangings_of m.env
+  pub registry : registry_of n.env ≡ registry_of m.env
 
 pub shares-still : (m : Machine) (c : Call) (o : Out) → StandsStill m (answered_by m c (hub_step m.hub (shared_entry m.env c o))).after
 shares-still m c o =
@@ -81,18 +81,18 @@ shares-still m c o =
     record {
       stage = (given-keeps m.hub x c x.given).stage;
       phase = ap (λ (e : Environment). e.phase) (after_shared-alone c r m.env);
-      hangings = ap hangings_of (after_shared-alone c r m.env);
+      registry = ap registry_of (after_shared-alone c r m.env);
     }
 
 pub moves-still : (m : Machine) (move : HubMove) → StandsStill m (move_step m move).after
-moves-still m (Delivers d) = record { stage = begin-stage m.hub (delivery_entry d) (hub_move m.hub); phase = refl; hangings = refl }
+moves-still m (Delivers d) = record { stage = begin-stage m.hub (delivery_entry d) (hub_move m.hub); phase = refl; registry = refl }
 moves-still m (Closes n) =
-    record { stage = close-stage m.hub (host_entry host.CloseTsfn (out.Function (record { 0 = n }))) (hub_move m.hub); phase = refl; hangings = refl }
+    record { stage = close-stage m.hub (host_entry host.CloseTsfn (out.Function (record { 0 = n }))) (hub_move m.hub); phase = refl; registry = refl }
 moves-still m (Finishes n) =
-    record { stage = finish-stage m.hub (host_entry host.FinishTsfn (out.Function (record { 0 = n }))) (hub_move m.hub); phase = refl; hangings = refl }
+    record { stage = finish-stage m.hub (host_entry host.FinishTsfn (out.Function (record { 0 = n }))) (hub_move m.hub); phase = refl; registry = refl }
 
 pub others-still : (m : Machine) (x : Entry) → is_environment x.actor ≡ false → StandsStill m (other_step m x).after
-others-still m x other = record { stage = (other-keeps m.hub x other).stage; phase = refl; hangings = refl }
+others-still m x other = record { stage = (other-keeps m.hub x other).stage; phase = refl; registry = refl }
 
 -- WHAT OTHERS TELL
 -- what a thread or a worker does: a thread calls, acquires and releases thread-safe functions, a worker starts and finishes a work, and each ends

@@ -6,7 +6,7 @@ use Rattle.napi_types.specs.declared.entry.Cause.TheVariants as cause
 use Rattle.napi_types.specs.declared.entry.Phase.{Phase}
 use Rattle.napi_types.specs.declared.entry.Phase.TheVariants as phase
 use Rattle.napi_types.specs.plain.Lists.{has, has_number}
-use Rattle.napi_types.specs.parts.Attachments.{tickets_where}
+use Rattle.napi_types.specs.parts.Attachments.{tickets_in}
 use Rattle.napi_types.specs.parts.Book.{Book, is_at, is_registered, is_owed, TicketsRise, cause_at}
 use Rattle.napi_types.specs.parts.Hooks.{Hook}
 use Rattle.napi_types.specs.parts.InstanceData.{InstanceData}
@@ -34,5 +34,5 @@ pub record IsHooked (e : Environment) : Type 0 where
   -- up to `finals` no other hook is registered or due
   pub others : is_late e.phase ≡ false → (n : ℕ) → cause_at e.book n ≡ Some cause.Hook → is_at is_owed e.book n ≡ true → has (λ h. h.ticket) n e.hooks ≡ true
   -- what is attached to values has tickets of finalizers, and so has instance data
-  pub attached : (n : ℕ) → has_number n (tickets_where (λ v. true) e.attachments) ≡ true → cause_at e.book n ≡ Some cause.Finalize
+  pub attached : (n : ℕ) → has_number n (tickets_in e.attachments) ≡ true → cause_at e.book n ≡ Some cause.Finalize
   pub instances : All (HasFinalizer e.book) e.instances

@@ -1,6 +1,6 @@
 -- What is attached to values: wraps, type tags, and the finalizers beside those of wraps. Wraps and tags are finite maps from the creation number of a
 -- value, and attached finalizers a finite map from their tickets.
-use Rattle.std.specs.Prelude.{ℕ, ◌==◌, Bool, false, not, ◌&&◌, cond, List, [], map, filter, ◌++◌, filter_map, Option, None, option_map}
+use Rattle.std.specs.Prelude.{ℕ, ◌==◌, Bool, false, not, ◌&&◌, List, [], map, filter, ◌++◌, filter_map, Option, option_map}
 use Rattle.std.specs.Option.{unwrap_or, option_and_then}
 use Rattle.napi_types.specs.plain.Lists.{found, has, has_number, with_record}
 
@@ -73,9 +73,22 @@ with_tag v lower upper a = record a { tags = with_record (λ t. t.value) (record
 abbrev pub with_attached : ℕ → ℕ → Attachments → Attachments
 with_attached v ticket a = record a { tickets = with_record (λ t. t.ticket) (record { value = v; ticket = ticket }) a.tickets }
 
--- the tickets of the wraps of the values that pass the test, and of the finalizers that are attached to them
+-- WHAT GOES WITH A VALUE
+-- all that is attached to the values that pass the test, and goes with them
+abbrev pub attached_where : (ℕ → Bool) → Attachments → Attachments
+attached_where test a = record {
+  wraps = filter (λ w. test w.value) a.wraps;
+  tags = filter (λ t. test t.value) a.tags;
+  tickets = filter (λ t. test t.value) a.tickets;
+}
+
+-- its tickets: those of wraps, and those of the finalizers beside them
+abbrev pub tickets_in : Attachments → List ℕ
+tickets_in a = filter_map (λ w. w.ticket) a.wraps ++ map (λ t. t.ticket) a.tickets
+
+-- the tickets of the values that pass the test
 abbrev pub tickets_where : (ℕ → Bool) → Attachments → List ℕ
-tickets_where test a = filter_map (λ w. cond (test w.value) w.ticket None) a.wraps ++ map (λ t. t.ticket) (filter (λ t. test t.value) a.tickets)
+tickets_where test a = tickets_in (attached_where test a)
 
 -- those of one value
 abbrev pub tickets_of : Attachments → ℕ → List ℕ
@@ -87,8 +100,4 @@ hangs_on freed a ticket = has_number ticket (tickets_where freed a)
 
 -- what is left as these values are freed: all that is attached to the others
 abbrev pub left_on : (ℕ → Bool) → Attachments → Attachments
-left_on freed a = record {
-  wraps = filter (λ w. not (freed w.value)) a.wraps;
-  tags = filter (λ t. not (freed t.value)) a.tags;
-  tickets = filter (λ t. not (freed t.value)) a.tickets;
-}
+left_on freed a = attached_where (λ v. not (freed v)) a
