@@ -38,7 +38,7 @@ use Rattle.napi_types.proofs.parts.BookSteps.{step-length}
 use Rattle.napi_types.proofs.parts.Books.{owed-begun, lowest-due, length-changed_where}
 use Rattle.napi_types.proofs.parts.Moved.{IsUnder, PassesTest}
 use Rattle.napi_types.proofs.environment.Answers.{course-parts, KeepsButAsk, call_change-keeps, call-reserved}
-use Rattle.napi_types.proofs.environment.FrameChanges.{book_left, owed-left, KeepsButFrame, ended-keeps}
+use Rattle.napi_types.proofs.environment.FrameChanges.{book_left, owed-left, KeepsButFrame, ended-keeps, left-parts}
 use Rattle.napi_types.proofs.environment.HookedSteps.{hooked-called, hooked-ended, hooked-begun, hooked-phase}
 use Rattle.napi_types.proofs.environment.Registrations.{owed-in}
 use Rattle.env_core.specs.Journal.{Pages, told_entry, last_reply}
@@ -149,7 +149,8 @@ reserved-ended old new stands local k =
     let left : length (local_frames (tail old.frames)) + 1 ≡ length (local_frames old.frames) = length-left old.frames stands local in
     let owed : owed_tickets (book_left (cause_of old.frames) (duty_of old.frames) old.book) ≡ owed_tickets old.book = owed-left (cause_of old.frames) (duty_of old.frames) old.book in
     let course = course-parts old new k.course in
-    rw (course.opened, course.phase, course.addons, course.inits, k.frames, k.book) (omega (arith, left, owed))
+    let book : new.book ≡ book_left (cause_of old.frames) (duty_of old.frames) old.book = (left-parts old new k).book in
+    rw (course.opened, course.phase, course.addons, course.inits, k.frames, book) (omega (arith, left, owed))
 
 pub core-ended : (old new : Environment) (pages after : Pages) (x : Entry) (v : Option HandleId) (cut : Option Why) → IsCore old pages → old.frames ≢ []
     → is_hub_duty (duty_of old.frames) ≡ false → new ≡ (end_change v cut old).after → after ≡ written x (pages.promised - 1) pages → IsCore new after
@@ -159,7 +160,7 @@ core-ended old new pages after x v cut c stands local h e =
     let fewer : reserved_journal new + 1 ≡ reserved_journal old = reserved-ended old new stands local k in
     core-pushed old new pages after x (pages.promised - 1) c e (omega (arith, fewer, c.reserved)) (omega (arith, fewer, c.reserved, c.within))
     k.handles (omega (arith, ap length k.scope_numbers)) (omega (arith, ap (λ m. length m.issued) k.references)) (omega (arith, k.made))
-    (omega (arith, ap length k.book, length-book_left (cause_of old.frames) (duty_of old.frames) old.book))
+    (omega (arith, ap length (left-parts old new k).book, length-book_left (cause_of old.frames) (duty_of old.frames) old.book))
     (subst (λ (s : Environment). IsHooked s) (sym h) (hooked-ended v cut old c.hooked))
 
 -- THE FRAME OF A TICKET

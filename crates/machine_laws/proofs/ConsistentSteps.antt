@@ -20,7 +20,7 @@ use Rattle.napi_types.specs.declared.status.Status.{Status}
 use Rattle.napi_types.specs.declared.status.Status.TheVariants as status
 use Rattle.napi_types.specs.plain.Lists.{tail}
 use Rattle.napi_types.specs.parts.Book.{Book, Registration, due_info, moved_at, registration_at, begun_in}
-use Rattle.napi_types.specs.parts.Frames.{Frame, frame_of, frame_of_duty, most_frames, ask_counted}
+use Rattle.napi_types.specs.parts.Frames.{Frame, duty_of, frame_of, frame_of_duty, most_frames, ask_counted}
 use Rattle.napi_types.specs.parts.FunctionCalls.{left_value, with_receiver}
 use Rattle.napi_types.specs.parts.Heap.{Heap, handle_value}
 use Rattle.napi_types.specs.parts.HeapChanges.{with_handle, with_frame, without_frame}
@@ -31,6 +31,7 @@ use Rattle.napi_types.specs.environment.Ends.{uncut_call_end, end_change, outerm
 use Rattle.napi_types.specs.environment.Entering.{enter_change, asked_change}
 use Rattle.napi_types.specs.environment.Environment.{Environment, FunctionRoot}
 use Rattle.napi_types.specs.environment.Refusals.{refusal, early_refusal, depth_refusal}
+use Rattle.napi_types.specs.environment.Registry.{Registry, registry_of, with_registry}
 use Rattle.napi_types.specs.environment.SharedCalls.{with_root, without_root, after_shared}
 use Rattle.napi_types.specs.environment.Tickets.{hooks_left}
 use Rattle.napi_types.specs.hub.HubMoves.{HubMove, Delivers, Closes, Finishes}
@@ -40,6 +41,7 @@ use Rattle.napi_types.specs.runs.Run.{after, final, IsNext, IsRunBy}
 use Rattle.napi_types.specs.runs.Step.{Step, ticket_step, move_step, event_step, call_step_on, end_step_on, step}
 use Rattle.napi_types.proofs.plain.Lists.{length-changed, length-tail, none-last, not-when}
 use Rattle.napi_types.proofs.environment.Cases.{asked-by, ended-by}
+use Rattle.napi_types.proofs.environment.FrameChanges.{registry_ended}
 use Rattle.napi_types.proofs.runs.Forms as form
 use Rattle.napi_types.proofs.runs.Forms.{Form, form-of}
 use Rattle.napi_types.proofs.runs.Runs.{along-entries}
@@ -62,12 +64,12 @@ then-follows : (a b c : Environment) → LeadsToConsistent a b → LeadsToConsis
 then-follows a b c one two = record { good = two.good; stay = stays-then a.heap b.heap c.heap one.stay two.stay }
 
 -- THE END OF A FRAME
--- a frame ends, its heap is left for another, an exception that is pending may be cleared, and the book may change
-ended-follows : (e : Environment) (heap : Heap) (pending : Option ℕ) (s : Status) (book : Book) → IsConsistent e → ComesTo e.heap heap
+-- a frame ends, its heap is left for another, an exception that is pending may be cleared, and the registry may change
+ended-follows : (e : Environment) (heap : Heap) (pending : Option ℕ) (s : Status) (r : Registry) → IsConsistent e → ComesTo e.heap heap
     → length heap.scopes ≡ length (tail e.heap.scopes) → IsConsistentButFrames (record e { heap = heap; pending = pending })
-    → LeadsToConsistent e (record e { heap = heap; frames = tail e.frames; pending = pending; last = s; book = book })
-ended-follows e heap pending s book c comes same g =
-    let new : Environment = record e { heap = heap; frames = tail e.frames; pending = pending; last = s; book = book } in
+    → LeadsToConsistent e (record (with_registry e r) { heap = heap; frames = tail e.frames; pending = pending; last = s })
+ended-follows e heap pending s r c comes same g =
+    let new : Environment = record (with_registry e r) { heap = heap; frames = tail e.frames; pending = pending; last = s } in
     let good : IsConsistentButFrames new = record { heap = g.heap; referred = g.referred; references = g.references; pending = g.pending; rooted = g.rooted } in
     record {
       good = whole-of new good (same ∙ length-tail e.heap.scopes e.frames c.frames) (omega (arith, tail-shorter e.frames, c.depth));
@@ -79,7 +81,8 @@ kept-ended : (e : Environment) (heap : Heap) (s : Status) → IsConsistent e →
     → LeadsToConsistent e (record e { heap = heap; frames = tail e.frames; last = s })
 kept-ended e heap s c comes same =
     let g : IsConsistentButFrames (record e { heap = heap }) = (in-heap e heap (parts-of e c) comes).good in
-    ended-follows e heap e.pending s e.book c comes same (record { heap = g.heap; referred = g.referred; references = g.references; pending = g.pending; rooted = g.rooted })
+    ended-follows e heap e.pending s (registry_of e) c comes same
+    (record { heap = g.heap; referred = g.referred; references = g.references; pending = g.pending; rooted = g.rooted })
 
 left-live : (e : Environment) (v : Option HandleId) → IsConsistentHeap e.heap → IsLiveAmong e.heap.values (left_value e.heap v)
 left-live e None g = g.starting 0 0 (omega arith)
@@ -97,7 +100,8 @@ outermost-follows : (cut : Option Why) (e : Environment) → IsConsistent e → 
 outermost-follows cut e c =
     let left : ComesTo e.heap (without_frame e.heap) = without-frame e.heap (parts-of e c).heap in
     let g : IsConsistentButFrames (record e { heap = without_frame e.heap }) = (in-heap e (without_frame e.heap) (parts-of e c) left).good in
-    ended-follows e (without_frame e.heap) None e.last _ c left refl (record { heap = g.heap; referred = g.referred; references = g.references; pending = tt; rooted = g.rooted })
+    ended-follows e (without_frame e.heap) None e.last (registry_ended (duty_of e.frames) (registry_of e)) c left refl
+    (record { heap = g.heap; referred = g.referred; references = g.references; pending = tt; rooted = g.rooted })
 
 frame-follows : (v : Option HandleId) (cut : Option Why) (e : Environment) → IsConsistent e → LeadsToConsistent e (end_change v cut e).after
 frame-follows v cut e c =

@@ -41,7 +41,7 @@ use Rattle.napi_types.specs.environment.Hooked.{is_late}
 use Rattle.napi_types.proofs.plain.Conditions.{and-right, not-true}
 use Rattle.napi_types.proofs.parts.Books.{owed-begun, NoneRegistered, none-owed_tickets}
 use Rattle.napi_types.proofs.environment.Answers.{SameCourse, course_of, course-parts, local-counted}
-use Rattle.napi_types.proofs.environment.FrameChanges.{KeepsButFrame, ended-keeps, owed-left, KeepsButFrames, asked_change-fits}
+use Rattle.napi_types.proofs.environment.FrameChanges.{KeepsButFrame, ended-keeps, left-parts, owed-left, KeepsButFrames, asked_change-fits}
 use Rattle.napi_types.proofs.environment.FrameEnds.{Ends, ended-ends}
 use Rattle.napi_types.proofs.environment.Registrations.{none-asked, none-ended, none-begun, owed-in}
 use Rattle.napi_types.proofs.hub.HubDuties.{delivery-of_hub}
@@ -152,7 +152,8 @@ ended-room Enough l m v w f fs b hubs e r enough =
     let left : d.frames ≡ fs = k.frames ∙ ap tail e in
     let whose : is_hub_duty f.duty ≡ b = ap (λ gs. is_hub_duty (duty_of gs)) (sym e) ∙ hubs in
     let depth : length (local_frames m.env.frames) ≡ one_if (not b) + length (local_frames fs) = ap (λ gs. length (local_frames gs)) e ∙ frame-local f fs b whose in
-    let waits : owed_tickets d.book ≡ owed_tickets m.env.book = ap owed_tickets k.book ∙ owed-left (cause_of m.env.frames) (duty_of m.env.frames) m.env.book in
+    let waits : owed_tickets d.book ≡ owed_tickets m.env.book =
+    ap owed_tickets (left-parts m.env d k).book ∙ owed-left (cause_of m.env.frames) (duty_of m.env.frames) m.env.book in
     let before : m.journal_length + (other_places m.env + (one_if (not b) + length (local_frames fs)) + 2 * owed_tickets m.env.book) ≤ l.journal = rw depth at (r.journal enough) in
     rw (same-others d m.env (course-parts m.env d k.course), left)
     (end-fits m.journal_length (other_places m.env) (one_if (not b)) (length (local_frames fs)) (owed_tickets d.book) (owed_tickets m.env.book) l.journal before waits)

@@ -45,7 +45,7 @@ use Rattle.napi_types.proofs.parts.BookSteps.{BookStep, stays, adds, drops, coll
 use Rattle.napi_types.proofs.parts.Books.{owed-cons, Leaves, withdrawn-leaves, leaves-in, due-keeps, ended-keeps, length-changed_where}
 use Rattle.napi_types.proofs.parts.Moved.{registration_at-changed_where, registration_at-new, registration_at-old}
 use Rattle.napi_types.proofs.environment.Answers.{call_change-keeps}
-use Rattle.napi_types.proofs.environment.FrameChanges.{book_left, ended-keeps as end_change-keeps, enter_change-keeps, registry-parts}
+use Rattle.napi_types.proofs.environment.FrameChanges.{book_left, ended-keeps as end_change-keeps, left-parts, enter_change-keeps, registry-parts}
 use Rattle.napi_types.proofs.environment.Cases.{asked-by, ended-by}
 use Rattle.napi_types.proofs.hub.HubDuties.{OfHub, SparesTickets, hub_step-spares}
 use Rattle.napi_types.proofs.runs.SharedSteps.{StandsStill, shares-still}
@@ -141,7 +141,7 @@ step-is m s (shares c o shared answers) ok =
 step-is m s (leaves v cut may ours) ok =
     let c : Change = end_change v cut m.env in
     hub-is m.env.book m.hub c.entry c.after.book (and-right may (hub_step m.hub c.entry).may ok)
-    ((end_change-keeps v cut m.env).book ∙ hub-left (cause_of m.env.frames) (duty_of m.env.frames) m.env.book ours)
+    ((left-parts m.env c.after (end_change-keeps v cut m.env)).book ∙ hub-left (cause_of m.env.frames) (duty_of m.env.frames) m.env.book ours)
 step-is m s (passes p o q) ok =
     tickets-alone m.env.book s.entry s.after.env.book
     (subst (λ y. EntryTickets m.env.book y (book_in p m.env.book)) (sym q.entry) (passed-is p o m.env.book))

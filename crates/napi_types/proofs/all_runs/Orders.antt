@@ -50,7 +50,7 @@ use Rattle.napi_types.proofs.plain.Found.{has-found, found-filter}
 use Rattle.napi_types.proofs.parts.Books.{NoneRegistered, withdrawn-leaves, leaves-in}
 use Rattle.napi_types.proofs.parts.Moved.{at-state, at-cause}
 use Rattle.napi_types.proofs.environment.Answers.{course-parts}
-use Rattle.napi_types.proofs.environment.FrameChanges.{HasRegistry, registry-parts, KeepsButFrame, ended-keeps, asked_change-fits}
+use Rattle.napi_types.proofs.environment.FrameChanges.{HasRegistry, registry-parts, KeepsButFrame, ended-keeps, left-parts, asked_change-fits}
 use Rattle.napi_types.proofs.environment.FrameEnds.{ended-ends}
 use Rattle.napi_types.proofs.environment.Registrations.{registered-holds}
 use Rattle.napi_types.proofs.environment.TornBooks.{NoneMore, asked-more, left-more, begun-more, left-above}
@@ -262,7 +262,8 @@ ended-fewer : (e : Environment) (v : Option HandleId) (cut : Option Why) (n : �
 ended-fewer e v cut n may =
     let d : Environment = (end_change v cut e).after in
     let keeps : KeepsButFrame e d = ended-keeps v cut e in
-    phase-stays e.phase d.phase e.hooks d.hooks n (course-parts e d keeps.course).phase (λ p is. ap (λ hooks. has (λ (h : Hook). h.ticket) n hooks) (sym keeps.hooks) ∙ is) may
+    phase-stays e.phase d.phase e.hooks d.hooks n (course-parts e d keeps.course).phase
+    (λ p is. ap (λ hooks. has (λ (h : Hook). h.ticket) n hooks) (sym (left-parts e d keeps).hooks) ∙ is) may
 
 -- nor where all of it stays
 still-fewer : (m n : Machine) → StandsStill m n → (t : ℕ) → MayBeginAt n.env t → MayBeginAt m.env t
@@ -362,7 +363,7 @@ ended-due : (e : Environment) (v : Option HandleId) (cut : Option Why) → NoneR
 ended-due e v cut none n due =
     let c : Cause = cause_of e.frames in
     let d : Option Duty = duty_of e.frames in
-    (left-more c d e.book).due none n (ap (λ b. is_at is_due b n) (sym (ended-keeps v cut e).book) ∙ due)
+    (left-more c d e.book).due none n (ap (λ b. is_at is_due b n) (sym (left-parts e (end_change v cut e).after (ended-keeps v cut e)).book) ∙ due)
 
 still-due : (m n : Machine) → StandsStill m n → (t : ℕ) → is_at is_due n.env.book t ≡ true → is_at is_due m.env.book t ≡ true
 still-due m n still t due = ap (λ book. is_at is_due book t) (sym (registry-parts (registry_of m.env) n.env still.registry).book) ∙ due

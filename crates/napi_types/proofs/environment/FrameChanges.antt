@@ -43,10 +43,18 @@ registry-parts r e same = record {
 }
 
 -- THE END OF A FRAME
--- the book after a frame that began for this reason: that of a call ends no duty
+-- the registry after the end of a duty. Of the registry the end of a frame changes this and nothing else
+abbrev pub registry_ended : Option Duty → Registry → Registry
+registry_ended d r = record r { book = duty_ended d r.book }
+
+-- the duty that ends with a frame that began for this reason: none with that of a call
+abbrev pub ending_duty : Cause → Option Duty → Option Duty
+ending_duty cause.Call d = None
+ending_duty _ d = d
+
+-- the book after such a frame
 abbrev pub book_left : Cause → Option Duty → Book → Book
-book_left cause.Call d book = book
-book_left _ d book = duty_ended d book
+book_left c d book = duty_ended (ending_duty c d) book
 
 -- what the end of a frame keeps: all but its frame and its scopes, its duty, the pending exception and the last status; it issues one handle at most.
 -- The frame began for this reason
@@ -58,27 +66,32 @@ pub record KeepsButFrameBy (c : Cause) (old new : Environment) : Type 0 where
   pub handles : new.heap.handles ≤ old.heap.handles + 1
   pub scope_numbers : new.heap.scope_numbers ≡ old.heap.scope_numbers
   pub references : new.references ≡ old.references
-  pub attachments : new.attachments ≡ old.attachments
-  pub book : new.book ≡ book_left c (duty_of old.frames) old.book
-  pub hooks : new.hooks ≡ old.hooks
-  pub instances : new.instances ≡ old.instances
+  pub registry : registry_of new ≡ registry_ended (ending_duty c (duty_of old.frames)) (registry_of old)
 
 -- the same, for the reason for which the innermost one began
 abbrev pub KeepsButFrame : Environment → Environment → Type 0
 KeepsButFrame old new = KeepsButFrameBy (cause_of old.frames) old new
 
 left-keeps : (v : Option HandleId) (e : Environment) (pending : Option ℕ) → KeepsButFrameBy cause.Call e (uncut_call_end v e pending).after
-left-keeps v e (Some p) = record { course = refl; frames = refl; values = refl; made = refl; handles = omega arith; scope_numbers = refl; references = refl; attachments = refl; book = refl; hooks = refl; instances = refl }
-left-keeps v e None = record { course = refl; frames = refl; values = refl; made = refl; handles = omega arith; scope_numbers = refl; references = refl; attachments = refl; book = refl; hooks = refl; instances = refl }
+left-keeps v e (Some p) =
+    record { course = refl; frames = refl; values = refl; made = refl; handles = omega arith; scope_numbers = refl; references = refl; registry = refl }
+left-keeps v e None =
+    record { course = refl; frames = refl; values = refl; made = refl; handles = omega arith; scope_numbers = refl; references = refl; registry = refl }
 
 by-cause : (v : Option HandleId) (cut : Option Why) (e : Environment) (c : Cause) → KeepsButFrameBy c e (end_change_by v cut e c).after
 by-cause v (Some w) e cause.Call =
-    record { course = refl; frames = refl; values = refl; made = refl; handles = omega arith; scope_numbers = refl; references = refl; attachments = refl; book = refl; hooks = refl; instances = refl }
+    record { course = refl; frames = refl; values = refl; made = refl; handles = omega arith; scope_numbers = refl; references = refl; registry = refl }
 by-cause v None e cause.Call = left-keeps v e e.pending
-by-cause v cut e _ = record { course = refl; frames = refl; values = refl; made = refl; handles = omega arith; scope_numbers = refl; references = refl; attachments = refl; book = refl; hooks = refl; instances = refl }
+by-cause v cut e _ =
+    record { course = refl; frames = refl; values = refl; made = refl; handles = omega arith; scope_numbers = refl; references = refl; registry = refl }
 
 pub ended-keeps : (v : Option HandleId) (cut : Option Why) (e : Environment) → KeepsButFrame e (end_change v cut e).after
 ended-keeps v cut e = by-cause v cut e (cause_of e.frames)
+
+-- the registry in its parts
+pub left-parts : (old new : Environment) → KeepsButFrame old new
+    → HasRegistry (registry_ended (ending_duty (cause_of old.frames) (duty_of old.frames)) (registry_of old)) new
+left-parts old new k = registry-parts (registry_ended (ending_duty (cause_of old.frames) (duty_of old.frames)) (registry_of old)) new k.registry
 
 -- no ticket comes or goes with the end of a frame
 owed-duty : (d : Option Duty) (book : Book) → owed_tickets (duty_ended d book) ≡ owed_tickets book
@@ -89,8 +102,7 @@ owed-duty (Some (duty.Function f)) book = refl
 owed-duty None book = refl
 
 pub owed-left : (c : Cause) (d : Option Duty) (book : Book) → owed_tickets (book_left c d book) ≡ owed_tickets book
-owed-left cause.Call d book = refl
-owed-left _ d book = owed-duty d book
+owed-left c d book = owed-duty (ending_duty c d) book
 
 -- THE BEGIN OF A CALL'S FRAME
 -- what an accepted call of a function keeps: all but its frame and its scope; it makes no value, and issues one handle at most

@@ -83,13 +83,11 @@ all-stay : (hooks : List Hook) → hooks ≡ filter (λ h. every_ticket h.ticket
 all-stay hooks = sym (filter_all (λ (h : Hook). every_ticket h.ticket) hooks (λ k d inside. refl))
 
 -- nothing of it changes
-hooked-same : (old new : Environment) → new.phase ≡ old.phase → HasRegistry (registry_of old) new → IsHooked old → IsHooked new
-hooked-same old new phase same h =
+pub unchanged : (old new : Environment) → new.phase ≡ old.phase → registry_of new ≡ registry_of old → IsHooked old → IsHooked new
+unchanged old new phase registry h =
+    let same : HasRegistry (registry_of old) new = registry-parts (registry_of old) new registry in
     let goes : BookGoes new.phase every_ticket old.book new.book = subst (λ b. BookGoes new.phase every_ticket old.book b) (sym same.book) (goes-nowhere new.phase old.book) in
     hooked-goes old new every_ticket (λ early. ap is_late (sym phase) ∙ early) goes (same.hooks ∙ all-stay old.hooks) same.attachments same.instances h
-
-pub unchanged : (old new : Environment) → new.phase ≡ old.phase → registry_of new ≡ registry_of old → IsHooked old → IsHooked new
-unchanged old new phase same h = hooked-same old new phase (registry-parts (registry_of old) new same) h
 
 -- one thing changes alone
 hooked-book : (e : Environment) (book : Book) → BookGoes e.phase every_ticket e.book book → IsHooked e → IsHooked (record e { book = book })
@@ -234,8 +232,7 @@ hooked-ended v cut e h =
     let new : Environment = (end_change v cut e).after in
     let k : KeepsButFrame e new = ended-keeps v cut e in
     let left : Environment = record e { book = book_left (cause_of e.frames) (duty_of e.frames) e.book } in
-    let same : HasRegistry (registry_of left) new = record { attachments = k.attachments; book = k.book; hooks = k.hooks; instances = k.instances } in
-    hooked-same left new (course-parts e new k.course).phase same (hooked-book e _ (left-goes e.phase (cause_of e.frames) (duty_of e.frames) e.book) h)
+    unchanged left new (course-parts e new k.course).phase k.registry (hooked-book e _ (left-goes e.phase (cause_of e.frames) (duty_of e.frames) e.book) h)
 
 -- in Hooks what begins is taken off the list; in every other phase it was due, and is no hook that is registered
 begun-hooked : (p : Phase) (n : ℕ) (r : Registration) (e : Environment) → registration_at e.book n ≡ Some r → may_begin_in p r.state ≡ true → IsHooked e

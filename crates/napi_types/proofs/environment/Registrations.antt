@@ -27,7 +27,7 @@ use Rattle.napi_types.proofs.parts.BookSteps.{BookStep, stays, adds, drops, coll
 use Rattle.napi_types.proofs.parts.Books.{NoneRegistered, owed-due_where}
 use Rattle.napi_types.proofs.parts.Moves.{Falls, Withdraws, Begins, Ends, unregistered-moved, MovesKeep, each-kept, changed_where-both}
 use Rattle.napi_types.proofs.environment.Answers.{call_change-keeps, torn-makes-none}
-use Rattle.napi_types.proofs.environment.FrameChanges.{book_left, registry-parts, ended-keeps, enter_change-keeps}
+use Rattle.napi_types.proofs.environment.FrameChanges.{book_left, registry-parts, ended-keeps, left-parts, enter_change-keeps}
 use Rattle.napi_types.proofs.environment.Cases.{asked-by}
 
 -- what holds of every registration holds of what is under a ticket
@@ -74,7 +74,8 @@ module _ (Q : Book → Type 0) (kept : MovesKeep Q) where
 
   pub ended-kept : (e : Environment) (v : Option HandleId) (cut : Option Why) → Q e.book → Q (end_change v cut e).after.book
   ended-kept e v cut q =
-      same-book _ _ (ended-keeps v cut e).book (left-kept Q e.book (λ t. kept Ends (λ m. m == t) e.book q) (cause_of e.frames) (duty_of e.frames) q)
+      same-book _ _ (left-parts e (end_change v cut e).after (ended-keeps v cut e)).book
+      (left-kept Q e.book (λ t. kept Ends (λ m. m == t) e.book q) (cause_of e.frames) (duty_of e.frames) q)
 
   pub begun-kept : (p : Phase) (n : ℕ) (b : Book) → Q b → Q (moved_at (begun_in p) n b)
   begun-kept phase.Hooks n b q =
