@@ -1,6 +1,6 @@
 //! How an operation of a script is filled from registers, and what a register keeps of its result.
-ghost use Rattle.std.specs.Prelude.{◌≡◌, option_map};
-ghost use Rattle.napi_types.specs.scripts.Registers.{register_at as number_in_register, handle_in, arguments_in, operation_ask, result_register, register_value};
+ghost use Rattle.std.specs.Prelude.{◌≡◌, option_map, option_to_list};
+ghost use Rattle.napi_types.specs.scripts.Registers.{register_at as number_in_register, handle_in, arguments_in, operation_ask, result_registers, register_values};
 
 use crate::{Args, Ask, Call, HandleId, Op, Out, RefId, Regs, ScopeId, TsfnId, WorkId};
 
@@ -237,9 +237,9 @@ impl Op {
         Ask::Do(call)
     }
 
-    /// The register that keeps the result, `None` exactly for an operation that keeps none.
+    /// The register that keeps the result, `None` exactly for an operation that keeps none. No operation keeps its result in more than one.
     pub fn result_register(&self) -> Option<u8>
-        ensures { result ≡ result_register self.now }
+        ensures { option_to_list result ≡ result_registers self.now }
     {
         match *self {
             Op::GetUndefined(result)
@@ -321,11 +321,12 @@ impl Op {
 }
 
 impl Out {
-    /// The number that a register keeps of this result, `None` exactly for a result that is no value of a call.
+    /// The number that a register keeps of this result, `None` exactly for a result that is no value of a call. No result is kept as more
+    /// than one number.
     ///
     /// A signed number is kept modulo 2^64, a flag as 0 or 1, no handle as 0, and everything else by its number.
     pub fn register_value(&self) -> Option<u64>
-        ensures { result ≡ register_value self.now }
+        ensures { option_to_list result ≡ register_values self.now }
     {
         match *self {
             Out::Handle(HandleId(number)) => Some(number),

@@ -1,5 +1,5 @@
 -- The registers of an addon, and what its plan asks: a plan has a list of operations for each entry, and an addon has 32 registers.
-use Rattle.std.specs.Prelude.{ℕ, ◌++◌, Bool, true, false, cond, min, nat_lt, List, [], ◌∷◌, take, set, replicate, slice_get, slice_index, Option, Some, None, option_and_then, option_map, is_some}
+use Rattle.std.specs.Prelude.{ℕ, ◌++◌, Bool, true, false, cond, min, nat_lt, List, [], ◌∷◌, take, set, replicate, slice_get, slice_index, Option, Some, None, option_and_then, option_map, option_to_list, is_some}
 use Rattle.std.specs.Int.{cast_unsigned, w64}
 use Rattle.napi_types.specs.declared.call.Args.{Args}
 use Rattle.napi_types.specs.declared.call.Ask.{Ask}
@@ -14,6 +14,7 @@ use Rattle.napi_types.specs.declared.entry.Out.TheVariants as out
 use Rattle.napi_types.specs.declared.entry.Reply.{Reply}
 use Rattle.napi_types.specs.declared.status.Status.{Status}
 use Rattle.napi_types.specs.declared.status.Status.TheVariants as status
+use Rattle.napi_types.specs.plain.Lists.{one}
 use Rattle.napi_types.specs.plain.Numbers.{kind_number}
 
 -- the number in a register, 0 past the last one
@@ -113,80 +114,80 @@ operation_ask (op.ThreadCall f n m) rs = ask.Do (call.CallThreadsafeFunction (re
 operation_ask (op.ThreadAcquire f) rs = ask.Do (call.AcquireThreadsafeFunction (record { 0 = f }))
 operation_ask (op.ThreadRelease f m) rs = ask.Do (call.ReleaseThreadsafeFunction (record { 0 = f }) m)
 
--- the register that keeps an operation's result
-abbrev pub result_register : Op → Option ℕ
-result_register (op.GetUndefined w) = Some w
-result_register (op.GetNull w) = Some w
-result_register (op.GetGlobal w) = Some w
-result_register (op.GetBoolean _ w) = Some w
-result_register (op.CreateInt64 _ w) = Some w
-result_register (op.CreateBigintInt64 _ w) = Some w
-result_register (op.CreateStringUtf8 _ w) = Some w
-result_register (op.CreateSymbol _ w) = Some w
-result_register (op.CreateObject w) = Some w
-result_register (op.CreateArray w) = Some w
-result_register (op.CreateFunction _ _ w) = Some w
-result_register (op.CreateExternal _ _ _ w) = Some w
-result_register (op.CreateError _ _ w) = Some w
-result_register (op.Typeof _ w) = Some w
-result_register (op.IsArray _ w) = Some w
-result_register (op.IsError _ w) = Some w
-result_register (op.GetValueInt64 _ w) = Some w
-result_register (op.GetValueBigintInt64 _ w) = Some w
-result_register (op.GetValueBool _ w) = Some w
-result_register (op.GetValueStringUtf8 _ w) = Some w
-result_register (op.GetValueExternal _ w) = Some w
-result_register (op.GetArrayLength _ w) = Some w
-result_register (op.StrictEquals _ _ w) = Some w
-result_register (op.GetNamedProperty _ _ w) = Some w
-result_register (op.HasNamedProperty _ _ w) = Some w
-result_register (op.DeleteProperty _ _ w) = Some w
-result_register (op.GetPropertyNames _ w) = Some w
-result_register (op.GetElement _ _ w) = Some w
-result_register (op.HasElement _ _ w) = Some w
-result_register (op.OpenHandleScope w) = Some w
-result_register (op.OpenEscapableHandleScope w) = Some w
-result_register (op.EscapeHandle _ _ w) = Some w
-result_register (op.CreateReference _ _ w) = Some w
-result_register (op.ReferenceRef _ w) = Some w
-result_register (op.ReferenceUnref _ w) = Some w
-result_register (op.GetReferenceValue _ w) = Some w
-result_register (op.Wrap _ _ _ _ w) = w
-result_register (op.Unwrap _ w) = Some w
-result_register (op.RemoveWrap _ w) = Some w
-result_register (op.CheckObjectTypeTag _ _ _ w) = Some w
-result_register (op.AddFinalizer _ _ _ _ w) = w
-result_register (op.CallFunction _ _ _ w) = Some w
-result_register (op.IsExceptionPending w) = Some w
-result_register (op.GetAndClearLastException w) = Some w
-result_register (op.GetLastErrorInfo w) = Some w
-result_register (op.GetInstanceData w) = Some w
-result_register (op.CreateAsyncWork _ _ _ w) = Some w
-result_register (op.CreateThreadsafeFunction _ _ _ _ _ _ w) = Some w
-result_register (op.GetThreadsafeFunctionContext _ w) = Some w
-result_register (op.GetVersion w) = Some w
-result_register (op.Collect w) = Some w
-result_register _ = None
+-- the registers that keep an operation's result, in the order of its numbers
+abbrev pub result_registers : Op → List ℕ
+result_registers (op.GetUndefined w) = one w
+result_registers (op.GetNull w) = one w
+result_registers (op.GetGlobal w) = one w
+result_registers (op.GetBoolean _ w) = one w
+result_registers (op.CreateInt64 _ w) = one w
+result_registers (op.CreateBigintInt64 _ w) = one w
+result_registers (op.CreateStringUtf8 _ w) = one w
+result_registers (op.CreateSymbol _ w) = one w
+result_registers (op.CreateObject w) = one w
+result_registers (op.CreateArray w) = one w
+result_registers (op.CreateFunction _ _ w) = one w
+result_registers (op.CreateExternal _ _ _ w) = one w
+result_registers (op.CreateError _ _ w) = one w
+result_registers (op.Typeof _ w) = one w
+result_registers (op.IsArray _ w) = one w
+result_registers (op.IsError _ w) = one w
+result_registers (op.GetValueInt64 _ w) = one w
+result_registers (op.GetValueBigintInt64 _ w) = one w
+result_registers (op.GetValueBool _ w) = one w
+result_registers (op.GetValueStringUtf8 _ w) = one w
+result_registers (op.GetValueExternal _ w) = one w
+result_registers (op.GetArrayLength _ w) = one w
+result_registers (op.StrictEquals _ _ w) = one w
+result_registers (op.GetNamedProperty _ _ w) = one w
+result_registers (op.HasNamedProperty _ _ w) = one w
+result_registers (op.DeleteProperty _ _ w) = one w
+result_registers (op.GetPropertyNames _ w) = one w
+result_registers (op.GetElement _ _ w) = one w
+result_registers (op.HasElement _ _ w) = one w
+result_registers (op.OpenHandleScope w) = one w
+result_registers (op.OpenEscapableHandleScope w) = one w
+result_registers (op.EscapeHandle _ _ w) = one w
+result_registers (op.CreateReference _ _ w) = one w
+result_registers (op.ReferenceRef _ w) = one w
+result_registers (op.ReferenceUnref _ w) = one w
+result_registers (op.GetReferenceValue _ w) = one w
+result_registers (op.Wrap _ _ _ _ w) = option_to_list w
+result_registers (op.Unwrap _ w) = one w
+result_registers (op.RemoveWrap _ w) = one w
+result_registers (op.CheckObjectTypeTag _ _ _ w) = one w
+result_registers (op.AddFinalizer _ _ _ _ w) = option_to_list w
+result_registers (op.CallFunction _ _ _ w) = one w
+result_registers (op.IsExceptionPending w) = one w
+result_registers (op.GetAndClearLastException w) = one w
+result_registers (op.GetLastErrorInfo w) = one w
+result_registers (op.GetInstanceData w) = one w
+result_registers (op.CreateAsyncWork _ _ _ w) = one w
+result_registers (op.CreateThreadsafeFunction _ _ _ _ _ _ w) = one w
+result_registers (op.GetThreadsafeFunctionContext _ w) = one w
+result_registers (op.GetVersion w) = one w
+result_registers (op.Collect w) = one w
+result_registers _ = []
 
 -- a flag as a number
 abbrev pub flag_number : Bool → ℕ
 flag_number true = 1
 flag_number false = 0
 
--- the number that a register keeps of a result: a signed one modulo 2 ^ 64, and 0 where there is no handle
-abbrev pub register_value : Out → Option ℕ
-register_value (out.Handle h) = Some h.0
-register_value out.NoHandle = Some 0
-register_value (out.Scope s) = Some s.0
-register_value (out.Ref r) = Some r.0
-register_value (out.Work w) = Some w.0
-register_value (out.Function f) = Some f.0
-register_value (out.Signed i) = Some (cast_unsigned w64 i)
-register_value (out.Unsigned n) = Some n
-register_value (out.Flag b) = Some (flag_number b)
-register_value (out.Text t) = Some t.0
-register_value (out.Kind k) = Some (kind_number k)
-register_value _ = None
+-- the numbers that registers keep of a result: a signed one modulo 2 ^ 64, and 0 where there is no handle
+abbrev pub register_values : Out → List ℕ
+register_values (out.Handle h) = one h.0
+register_values out.NoHandle = one 0
+register_values (out.Scope s) = one s.0
+register_values (out.Ref r) = one r.0
+register_values (out.Work w) = one w.0
+register_values (out.Function f) = one f.0
+register_values (out.Signed i) = one (cast_unsigned w64 i)
+register_values (out.Unsigned n) = one n
+register_values (out.Flag b) = one (flag_number b)
+register_values (out.Text t) = one t.0
+register_values (out.Kind k) = one (kind_number k)
+register_values _ = []
 
 -- the operation of an entry at a step, both counted from 0
 abbrev pub operation : List (List Op) → ℕ → ℕ → Option Op
@@ -201,24 +202,24 @@ next_ask (Some o) rs = operation_ask o rs
 abbrev pub plan_ask : List (List Op) → List ℕ → ℕ → ℕ → Ask
 plan_ask plan rs entry step = next_ask (operation plan entry step) rs
 
--- the registers with a number in one of them; they stay where there is no number, and where there is no such register
-abbrev pub put_number : List ℕ → ℕ → Option ℕ → List ℕ
-put_number rs r None = rs
-put_number rs r (Some n) = set rs r n
+-- the registers with numbers put in some of them, pairwise, as many as there are of both; they stay where there is no such register
+abbrev pub put_results : List ℕ → List ℕ → List ℕ → List ℕ
+put_results rs (r ∷ ws) (n ∷ ns) = put_results (set rs r n) ws ns
+put_results rs _ _ = rs
 
--- the registers with a result in the register that keeps it, if there is one
-abbrev pub put_result : List ℕ → Out → Option ℕ → List ℕ
-put_result rs o None = rs
-put_result rs o (Some r) = put_number rs r (register_value o)
+-- the registers with the result of a call in those that keep it; they stay where the call was refused
+abbrev pub put_accepted_result : List ℕ → List ℕ → Out → Status → List ℕ
+put_accepted_result rs ws o status.Ok = put_results rs ws (register_values o)
+put_accepted_result rs ws o _ = rs
 
--- the registers with the result of a call in the register that keeps it; they stay where the call was refused
-abbrev pub put_accepted_result : List ℕ → Option ℕ → Out → Status → List ℕ
-put_accepted_result rs w o status.Ok = put_result rs o w
-put_accepted_result rs w o _ = rs
+-- the registers that keep the result of an operation, if there is one
+abbrev pub keeping_registers : Option Op → List ℕ
+keeping_registers None = []
+keeping_registers (Some o) = result_registers o
 
 -- the registers after the reply to what the plan asked in a frame of that entry at that step
 abbrev pub registers_after_reply : List (List Op) → List ℕ → ℕ → ℕ → Reply → List ℕ
-registers_after_reply plan rs entry step reply = put_accepted_result rs (option_and_then result_register (operation plan entry step)) reply.out reply.status
+registers_after_reply plan rs entry step reply = put_accepted_result rs (keeping_registers (operation plan entry step)) reply.out reply.status
 
 -- the registers of an addon that was loaded
 abbrev pub blank_registers : List ℕ
