@@ -1,7 +1,8 @@
 //! Calls of the environment, by their names in the Node-API manual, and what an addon asks.
-ghost use Rattle.std.specs.Prelude.{◌≡◌};
-ghost use Rattle.napi_types.specs.plain.CallKinds.{is_value_call};
-ghost use Rattle.napi_types.specs.plain.Guards.{is_guarded, is_registering};
+ghost use Rattle.std.specs.Prelude.{◌≡◌, ◌&&◌, not};
+ghost use Rattle.napi_types.specs.plain.CallFacts.{AreFactsOf};
+ghost use Rattle.napi_types.specs.plain.CallKinds.{is_entering_group, is_value_group};
+ghost use Rattle.napi_types.specs.plain.Guards.{is_shared_group};
 
 use crate::{HandleId, RefId, ScopeId, TextNo, TsfnId, WorkId};
 
@@ -148,43 +149,71 @@ pub enum Call {
     Exit,
 }
 
+/// The groups of calls: each call is of one.
+#[derive(Clone, Copy)]
+pub enum CallGroup {
+    OnValues,
+    OnProperties,
+    OnFunctions,
+    OnScopes,
+    OnReferences,
+    OnWraps,
+    OnExternals,
+    OnEntering,
+    OnExceptions,
+    OnInstances,
+    OnHooks,
+    OnWorks,
+    OnThreads,
+    OnVersion,
+    OnCollection,
+    OnExit,
+}
+
+impl CallGroup {
+    /// Whether values and the handles to them tell all of a call of the group: it is on values, properties or elements, or makes a function.
+    pub fn is_of_values(self) -> bool
+        ensures { result ≡ is_value_group self }
+    {
+        matches!(
+            self,
+            CallGroup::OnValues | CallGroup::OnProperties | CallGroup::OnFunctions
+        )
+    }
+
+    /// Whether the hub answers a call of the group, whose entry stands in the history.
+    pub fn is_shared(self) -> bool
+        ensures { result ≡ is_shared_group self }
+    {
+        matches!(self, CallGroup::OnWorks | CallGroup::OnThreads)
+    }
+
+    /// Whether a call of the group is answered at once: it is neither shared, nor does it enter a frame.
+    pub fn is_answered_at_once(self) -> bool
+        ensures { result ≡ (not (is_shared_group self) && not (is_entering_group self)) }
+    {
+        !self.is_shared() && !matches!(self, CallGroup::OnEntering)
+    }
+}
+
 /// What is known of a call before it is made.
 #[derive(Clone, Copy)]
-struct Facts {
-    value: bool,
-    guarded: bool,
-    registering: bool,
+pub struct Facts {
+    pub group: CallGroup,
+    /// Whether the call is refused while an exception is pending, and in the teardown.
+    pub guarded: bool,
+    /// Whether it registers something to be done later, and so is refused in the teardown.
+    pub registers: bool,
+    /// How many places it needs in the list of its entry, counted as if it were accepted.
+    pub places: u32,
 }
 
 impl Call {
-    /// Whether the call is guarded: refused while an exception is pending, and in the teardown.
-    pub fn is_guarded(&self) -> bool
-        ensures { result ≡ is_guarded self.now }
+    /// The call's row in the table of calls: its group, whether it is guarded, whether it registers, and how many places it needs.
+    pub fn facts(&self) -> Facts
+        ensures { AreFactsOf result self.now }
     {
-        self.facts().guarded
-    }
-
-    /// Whether the call registers something to be done later, and so is refused in the teardown.
-    pub fn is_registering(&self) -> bool
-        ensures { result ≡ is_registering self.now }
-    {
-        self.facts().registering
-    }
-
-    /// Whether the call is one on values, properties and elements.
-    pub fn is_value_call(&self) -> bool
-        ensures { result ≡ is_value_call self.now }
-    {
-        self.facts().value
-    }
-
-    /// The table of calls: whether each is one on values, is guarded, and registers.
-    fn facts(&self) -> Facts
-        ensures value { result.value ≡ is_value_call self.now }
-        ensures guarded { result.guarded ≡ is_guarded self.now }
-        ensures registering { result.registering ≡ is_registering self.now }
-    {
-        let (value, guarded, registering) = match self {
+        let (group, guarded, registers, places) = match self {
             Call::GetUndefined
             | Call::GetNull
             | Call::GetGlobal
@@ -204,66 +233,74 @@ impl Call {
             | Call::GetValueBool(_)
             | Call::GetValueStringUtf8(_)
             | Call::GetValueExternal(_)
-            | Call::GetArrayLength(_) => (true, false, false),
-            Call::CreateFunction(..)
-            | Call::StrictEquals(..)
-            | Call::SetNamedProperty(..)
+            | Call::GetArrayLength(_) => (CallGroup::OnValues, false, false, 1),
+            Call::StrictEquals(..) => (CallGroup::OnValues, true, false, 1),
+            Call::SetNamedProperty(..)
             | Call::GetNamedProperty(..)
             | Call::HasNamedProperty(..)
             | Call::DeleteProperty(..)
             | Call::GetPropertyNames(_)
             | Call::SetElement(..)
             | Call::GetElement(..)
-            | Call::HasElement(..) => (true, true, false),
-            Call::Unwrap(_)
-            | Call::RemoveWrap(_)
-            | Call::TypeTagObject(..)
-            | Call::CheckObjectTypeTag(..)
-            | Call::CallFunction(..)
-            | Call::Throw(_)
-            | Call::ThrowError(..) => (false, true, false),
-            Call::Wrap(_, _, finalizer, _, _) => (false, true, finalizer.is_some()),
-            Call::CreateExternal(_, finalizer, _) | Call::SetInstanceData(_, finalizer, _) => (
-                false,
-                false,
-                finalizer.is_some(),
-            ),
-            Call::AddFinalizer(..)
-            | Call::AddEnvCleanupHook(..)
-            | Call::CreateAsyncWork(..)
-            | Call::QueueAsyncWork(_)
-            | Call::CreateThreadsafeFunction(..)
-            | Call::CallThreadsafeFunction(..) => (false, false, true),
+            | Call::HasElement(..) => (CallGroup::OnProperties, true, false, 1),
+            Call::CreateFunction(..) => (CallGroup::OnFunctions, true, false, 1),
             Call::OpenHandleScope
             | Call::OpenEscapableHandleScope
             | Call::CloseHandleScope(_)
             | Call::CloseEscapableHandleScope(_)
-            | Call::EscapeHandle(..)
-            | Call::CreateReference(..)
+            | Call::EscapeHandle(..) => (CallGroup::OnScopes, false, false, 1),
+            Call::CreateReference(..)
             | Call::DeleteReference(_)
             | Call::ReferenceRef(_)
             | Call::ReferenceUnref(_)
-            | Call::GetReferenceValue(_)
-            | Call::IsExceptionPending
-            | Call::GetAndClearLastException
-            | Call::GetLastErrorInfo
-            | Call::GetInstanceData
-            | Call::RemoveEnvCleanupHook(..)
-            | Call::DeleteAsyncWork(_)
-            | Call::CancelAsyncWork(_)
-            | Call::AcquireThreadsafeFunction(_)
+            | Call::GetReferenceValue(_) => (CallGroup::OnReferences, false, false, 1),
+            Call::Wrap(_, _, Some(_), _, _) => (CallGroup::OnWraps, true, true, 3),
+            Call::Wrap(_, _, None, _, _)
+            | Call::Unwrap(_)
+            | Call::RemoveWrap(_)
+            | Call::TypeTagObject(..)
+            | Call::CheckObjectTypeTag(..) => (CallGroup::OnWraps, true, false, 1),
+            Call::AddFinalizer(..) => (CallGroup::OnWraps, false, true, 3),
+            Call::CreateExternal(_, Some(_), _) => (CallGroup::OnExternals, false, true, 3),
+            Call::CreateExternal(_, None, _) => (CallGroup::OnExternals, false, false, 1),
+            Call::CallFunction(..) => (CallGroup::OnEntering, true, false, 2),
+            Call::Throw(_) | Call::ThrowError(..) => (CallGroup::OnExceptions, true, false, 1),
+            Call::IsExceptionPending | Call::GetAndClearLastException | Call::GetLastErrorInfo => (
+                CallGroup::OnExceptions,
+                false,
+                false,
+                1,
+            ),
+            Call::SetInstanceData(_, Some(_), _) => (CallGroup::OnInstances, false, true, 3),
+            Call::SetInstanceData(_, None, _) | Call::GetInstanceData => {
+                (CallGroup::OnInstances, false, false, 1)
+            }
+            Call::AddEnvCleanupHook(..) => (CallGroup::OnHooks, false, true, 3),
+            Call::RemoveEnvCleanupHook(..) => (CallGroup::OnHooks, false, false, 1),
+            Call::CreateAsyncWork(..) => (CallGroup::OnWorks, false, true, 1),
+            Call::DeleteAsyncWork(_) | Call::CancelAsyncWork(_) => {
+                (CallGroup::OnWorks, false, false, 1)
+            }
+            Call::QueueAsyncWork(_) => (CallGroup::OnWorks, false, true, 5),
+            Call::CreateThreadsafeFunction(_, _, _, _, Some(_), _) => {
+                (CallGroup::OnThreads, false, true, 5)
+            }
+            Call::CreateThreadsafeFunction(_, _, _, _, None, _)
+            | Call::CallThreadsafeFunction(..) => (CallGroup::OnThreads, false, true, 3),
+            Call::AcquireThreadsafeFunction(_)
             | Call::ReleaseThreadsafeFunction(..)
             | Call::RefThreadsafeFunction(_)
             | Call::UnrefThreadsafeFunction(_)
-            | Call::GetThreadsafeFunctionContext(_)
-            | Call::Collect
-            | Call::Exit
-            | Call::GetVersion => (false, false, false),
+            | Call::GetThreadsafeFunctionContext(_) => (CallGroup::OnThreads, false, false, 1),
+            Call::GetVersion => (CallGroup::OnVersion, false, false, 1),
+            Call::Collect => (CallGroup::OnCollection, false, false, 1),
+            Call::Exit => (CallGroup::OnExit, false, false, 1),
         };
         Facts {
-            value,
+            group,
             guarded,
-            registering,
+            registers,
+            places,
         }
     }
 }

@@ -22,7 +22,7 @@ mod status;
 mod text;
 
 pub use body::Body;
-pub use call::{Args, Ask, Call, JobSpec, Mode, Release};
+pub use call::{Args, Ask, Call, CallGroup, Facts, JobSpec, Mode, Release};
 pub use duties::{Begun, Due, DueInfo, SeenList, Slip};
 pub use edge::{Gate, MemSink, MemSource, OpenGate, SafeSink, SafeSource, Sink, Source};
 pub use entry::{

@@ -9,7 +9,9 @@ use Rattle.napi_types.specs.declared.ids.HandleId.{HandleId}
 use Rattle.napi_types.specs.declared.ids.ScopeKind.{ScopeKind}
 use Rattle.napi_types.specs.declared.status.Status.{Status}
 use Rattle.napi_types.specs.declared.status.Status.TheVariants as status
-use Rattle.napi_types.specs.plain.CallFacts.{CallGroup, OnValues, OnProperties, OnFunctions, OnScopes, OnReferences, OnWraps, OnEntering, OnHooks, OnThreads, group_of}
+use Rattle.napi_types.specs.declared.call.CallGroup.{CallGroup}
+use Rattle.napi_types.specs.declared.call.CallGroup.TheVariants.{OnValues, OnProperties, OnFunctions, OnScopes, OnReferences, OnWraps, OnEntering, OnHooks, OnThreads}
+use Rattle.napi_types.specs.plain.CallFacts.{group_of}
 use Rattle.napi_types.specs.plain.Guards.{is_guarded, is_registering}
 use Rattle.napi_types.specs.plain.Lists.{when, unless}
 use Rattle.napi_types.specs.parts.Attachments.{Attachments}

@@ -1,7 +1,9 @@
 -- The groups of calls.
 use Rattle.std.specs.Prelude.{option_map}
 use Rattle.napi_types.specs.declared.call.Call.{Call}
-use Rattle.napi_types.specs.plain.CallFacts.{CallGroup, OnFunctions, OnReferences, OnWraps, OnExternals, OnExceptions, OnInstances, OnHooks, OnCollection, OnExit, group_of}
+use Rattle.napi_types.specs.declared.call.CallGroup.{CallGroup}
+use Rattle.napi_types.specs.declared.call.CallGroup.TheVariants.{OnFunctions, OnReferences, OnWraps, OnExternals, OnExceptions, OnInstances, OnHooks, OnCollection, OnExit}
+use Rattle.napi_types.specs.plain.CallFacts.{group_of}
 use Rattle.napi_types.specs.parts.Frames.{caller_of}
 use Rattle.napi_types.specs.parts.FunctionCalls.{on_functions}
 use Rattle.napi_types.specs.parts.HeapGroups.{heap_group}

@@ -1,6 +1,8 @@
 -- The groups of calls, as far as the heap tells of them.
 use Rattle.napi_types.specs.declared.call.Call.{Call}
-use Rattle.napi_types.specs.plain.CallFacts.{CallGroup, OnValues, OnProperties, OnFunctions, OnScopes, OnWraps, OnEntering, OnThreads, OnVersion, group_of}
+use Rattle.napi_types.specs.declared.call.CallGroup.{CallGroup}
+use Rattle.napi_types.specs.declared.call.CallGroup.TheVariants.{OnValues, OnProperties, OnFunctions, OnScopes, OnWraps, OnEntering, OnThreads, OnVersion}
+use Rattle.napi_types.specs.plain.CallFacts.{group_of}
 use Rattle.napi_types.specs.parts.FunctionCalls.{functions_in_heap}
 use Rattle.napi_types.specs.parts.HeapGroup.{HeapGroup, untold_in_heap}
 use Rattle.napi_types.specs.parts.PropertyCalls.{properties_in_heap}

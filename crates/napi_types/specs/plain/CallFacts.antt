@@ -1,38 +1,22 @@
--- The table of calls: the group of each, and what else is known of it before it is made, a row for each.
-use Rattle.std.specs.Prelude.{ℕ, ◌+◌, Bool, true, false, List, [], ◌∷◌, ◌++◌, Option, Some, None, is_some}
+-- The table of calls: the group of each, and what else is known of it before it is made, a row for each. A call is of one group, whose records in
+-- `HeapGroups` and `Groups` tell why it is refused and what it answers.
+use Rattle.std.specs.Prelude.{◌≡◌, ℕ, ◌+◌, Bool, true, false, List, [], ◌∷◌, ◌++◌, Option, Some, None, is_some}
 use Rattle.napi_types.specs.declared.call.Call.{Call}
 use Rattle.napi_types.specs.declared.call.Call.TheVariants as call
+use Rattle.napi_types.specs.declared.call.CallGroup.{CallGroup}
+use Rattle.napi_types.specs.declared.call.CallGroup.TheVariants.{OnValues, OnProperties, OnFunctions, OnScopes, OnReferences, OnWraps, OnExternals, OnEntering, OnExceptions, OnInstances, OnHooks, OnWorks, OnThreads, OnVersion, OnCollection, OnExit}
+use Rattle.napi_types.specs.declared.call.Facts.{Facts}
 use Rattle.napi_types.specs.declared.ids.HandleId.{HandleId}
 use Rattle.napi_types.specs.declared.ids.TextNo.{TextNo}
 use Rattle.napi_types.specs.plain.Arguments.{argument_handles}
 use Rattle.napi_types.specs.plain.Lists.{one}
 
--- the groups of calls. A call is of one group, whose records in `HeapGroups` and `Groups` tell why it is refused and what it answers
-pub data CallGroup : Type 0 where
-  OnValues : CallGroup
-  OnProperties : CallGroup
-  OnFunctions : CallGroup
-  OnScopes : CallGroup
-  OnReferences : CallGroup
-  OnWraps : CallGroup
-  OnExternals : CallGroup
-  OnEntering : CallGroup
-  OnExceptions : CallGroup
-  OnInstances : CallGroup
-  OnHooks : CallGroup
-  OnWorks : CallGroup
-  OnThreads : CallGroup
-  OnVersion : CallGroup
-  OnCollection : CallGroup
-  OnExit : CallGroup
-
--- the call's group; whether it is guarded, whether it registers something, whether its entry stands in the history, and
--- whether it takes memory beside that of its places; how many places it needs; and the handles, the texts and the references that it names
+-- the call's group; whether it is guarded, whether it registers something, and whether it takes memory beside that of its places; how many places it needs; and
+-- the handles, the texts and the references that it names
 pub record CallFacts : Type 0 where
   pub group : CallGroup
   pub guarded : Bool
   pub registers : Bool
-  pub shared : Bool
   pub grows : Bool
   pub need : ℕ
   pub handles : List ℕ
@@ -42,7 +26,7 @@ pub record CallFacts : Type 0 where
 -- a call of this group, of which no more of this holds: it needs the place of its entry alone
 abbrev pub in_group : CallGroup → CallFacts
 in_group g =
-    record { group = g; guarded = false; registers = false; shared = false; grows = false; need = 1; handles = []; texts = []; references = [] }
+    record { group = g; guarded = false; registers = false; grows = false; need = 1; handles = []; texts = []; references = [] }
 
 -- the handle of an argument that may be left out
 abbrev pub handle_if : Option HandleId → List ℕ
@@ -62,10 +46,6 @@ duty_places = 2
 abbrev pub finalizer_places : Option ℕ → ℕ
 finalizer_places None = 0
 finalizer_places (Some entry) = duty_places
-
--- a shared call of this group
-abbrev pub shared_in : CallGroup → CallFacts
-shared_in g = record (in_group g) { shared = true }
 
 -- the table
 abbrev pub facts_of : Call → CallFacts
@@ -130,18 +110,18 @@ facts_of (call.SetInstanceData _ finalizer _) =
 facts_of call.GetInstanceData = in_group OnInstances
 facts_of (call.AddEnvCleanupHook _ _) = record (in_group OnHooks) { registers = true; grows = true; need = 1 + duty_places }
 facts_of (call.RemoveEnvCleanupHook _ _) = in_group OnHooks
-facts_of (call.CreateAsyncWork _ _ _) = record (shared_in OnWorks) { registers = true; grows = true }
-facts_of (call.DeleteAsyncWork _) = shared_in OnWorks
-facts_of (call.CancelAsyncWork _) = shared_in OnWorks
-facts_of (call.QueueAsyncWork _) = record (shared_in OnWorks) { registers = true; need = 3 + duty_places }
+facts_of (call.CreateAsyncWork _ _ _) = record (in_group OnWorks) { registers = true; grows = true }
+facts_of (call.DeleteAsyncWork _) = in_group OnWorks
+facts_of (call.CancelAsyncWork _) = in_group OnWorks
+facts_of (call.QueueAsyncWork _) = record (in_group OnWorks) { registers = true; need = 3 + duty_places }
 facts_of (call.CreateThreadsafeFunction f _ _ _ finalizer _) =
-    record (shared_in OnThreads) { registers = true; grows = true; need = 3 + finalizer_places finalizer; handles = handle_if f }
-facts_of (call.CallThreadsafeFunction _ _ _) = record (shared_in OnThreads) { registers = true; grows = true; need = 1 + duty_places }
-facts_of (call.AcquireThreadsafeFunction _) = shared_in OnThreads
-facts_of (call.ReleaseThreadsafeFunction _ _) = shared_in OnThreads
-facts_of (call.RefThreadsafeFunction _) = shared_in OnThreads
-facts_of (call.UnrefThreadsafeFunction _) = shared_in OnThreads
-facts_of (call.GetThreadsafeFunctionContext _) = shared_in OnThreads
+    record (in_group OnThreads) { registers = true; grows = true; need = 3 + finalizer_places finalizer; handles = handle_if f }
+facts_of (call.CallThreadsafeFunction _ _ _) = record (in_group OnThreads) { registers = true; grows = true; need = 1 + duty_places }
+facts_of (call.AcquireThreadsafeFunction _) = in_group OnThreads
+facts_of (call.ReleaseThreadsafeFunction _ _) = in_group OnThreads
+facts_of (call.RefThreadsafeFunction _) = in_group OnThreads
+facts_of (call.UnrefThreadsafeFunction _) = in_group OnThreads
+facts_of (call.GetThreadsafeFunctionContext _) = in_group OnThreads
 facts_of call.GetVersion = in_group OnVersion
 facts_of call.Collect = record (in_group OnCollection) { grows = true }
 facts_of call.Exit = in_group OnExit
@@ -149,3 +129,10 @@ facts_of call.Exit = in_group OnExit
 -- the call's group
 abbrev pub group_of : Call → CallGroup
 group_of c = (facts_of c).group
+
+-- this is what code is told of the call before it is made
+pub record AreFactsOf (f : Facts) (c : Call) : Type 0 where
+  pub group : f.group ≡ group_of c
+  pub guarded : f.guarded ≡ (facts_of c).guarded
+  pub registers : f.registers ≡ (facts_of c).registers
+  pub places : f.places ≡ (facts_of c).need

@@ -2,7 +2,9 @@
 use Rattle.std.specs.Prelude.{Bool, true, false}
 use Rattle.napi_types.specs.declared.call.Call.{Call}
 use Rattle.napi_types.specs.declared.call.Call.TheVariants as call
-use Rattle.napi_types.specs.plain.CallFacts.{CallGroup, OnValues, OnProperties, OnFunctions, group_of}
+use Rattle.napi_types.specs.declared.call.CallGroup.{CallGroup}
+use Rattle.napi_types.specs.declared.call.CallGroup.TheVariants.{OnValues, OnProperties, OnFunctions, OnEntering}
+use Rattle.napi_types.specs.plain.CallFacts.{group_of}
 
 -- the calls on values that give a handle of a starting value, or create a value
 abbrev pub is_creating : Call → Bool
@@ -48,7 +50,11 @@ abbrev pub is_exiting : Call → Bool
 is_exiting call.Exit = true
 is_exiting _ = false
 
+-- the group of the call of a function, which enters a frame
+abbrev pub is_entering_group : CallGroup → Bool
+is_entering_group OnEntering = true
+is_entering_group _ = false
+
 -- the call of a function
 abbrev pub is_calling : Call → Bool
-is_calling (call.CallFunction _ _ _) = true
-is_calling _ = false
+is_calling c = is_entering_group (group_of c)
