@@ -1,4 +1,4 @@
--- What a value's properties and elements name, as the value changes.
+-- What a value names, as it changes.
 use Rattle.std.proofs.Common.{◌≡◌, ℕ, ◌+◌, ◌-◌, ◌==◌, Bool, true, false, cond, not, List, [], ◌∷◌, ◌++◌, length, map, filter, replicate, refl, sym, subst, inl, inr, Option, Some, None}
 use Rattle.std.specs.List.{All, filter_map}
 use Rattle.std.specs.Option.{IfSome, unwrap_or}
@@ -7,7 +7,7 @@ use Rattle.std.proofs.lemmas.List.{get_or_past}
 use Rattle.std.proofs.lemmas.List.Elements.{All-nil, All-cons, All-head, All-tail, All-append, All-set, All-replicate, All-get_or}
 use Rattle.napi_types.specs.parts.Properties.{Property, property_at, property_set, property_removed, element_at, element_set}
 use Rattle.napi_types.specs.parts.Values.{Value, children, with_property, without_property, with_element, properties_of, elements_of}
-use Rattle.napi_types.proofs.plain.Lists.{All-left, All-right}
+use Rattle.napi_types.proofs.parts.ChildParts.{children-of, properties-of, elements-of, link-of}
 
 -- the numbers that properties, and elements, name
 abbrev pub named_values : List Property → List ℕ
@@ -26,15 +26,6 @@ OfElements P es = All P (present es)
 -- .. and of each child of a value
 abbrev pub OfChildren : (ℕ → Type 0) → Value → Type 0
 OfChildren P v = All P (children v)
-
-pub children-of : (P : ℕ → Type 0) (v : Value) → OfProperties P v.properties → OfElements P v.elements → OfChildren P v
-children-of P v ps es = All-append P (named_values v.properties) (present v.elements) ps es
-
-properties-of : (P : ℕ → Type 0) (v : Value) → OfChildren P v → OfProperties P v.properties
-properties-of P v all = All-left P (named_values v.properties) (present v.elements) all
-
-elements-of : (P : ℕ → Type 0) (v : Value) → OfChildren P v → OfElements P v.elements
-elements-of P v all = All-right P (named_values v.properties) (present v.elements) all
 
 -- ELEMENTS
 -- an element is a hole, or names such a number
@@ -105,7 +96,8 @@ pub record KeepsChildren (P : ℕ → Type 0) (change : Value → Value) : Type 
 pub keeps-property : (P : ℕ → Type 0) (name to : ℕ) → P to → KeepsChildren P (with_property name to)
 keeps-property P name to here = record {
   number = λ v. refl;
-  children = λ v all. children-of P (with_property name to v) (of-property-set P name to v.properties here (properties-of P v all)) (elements-of P v all);
+  children = λ v all.
+      children-of P (with_property name to v) (of-property-set P name to v.properties here (properties-of P v all)) (elements-of P v all) (link-of P v all);
 }
 
 pub keeps-removal : (P : ℕ → Type 0) (name : ℕ) → KeepsChildren P (without_property name)
@@ -113,13 +105,14 @@ keeps-removal P name = record {
   number = λ v. refl;
   children = λ v all.
       let rest : OfProperties P (property_removed name v.properties) = of-property-removed P (λ p. not (p.name == name)) v.properties (properties-of P v all) in
-      children-of P (without_property name v) rest (elements-of P v all);
+      children-of P (without_property name v) rest (elements-of P v all) (link-of P v all);
 }
 
 pub keeps-element : (P : ℕ → Type 0) (at to : ℕ) → P to → KeepsChildren P (with_element at to)
 keeps-element P at to here = record {
   number = λ v. refl;
-  children = λ v all. children-of P (with_element at to v) (properties-of P v all) (of-element-set P at to v.elements here (elements-of P v all));
+  children = λ v all.
+      children-of P (with_element at to v) (properties-of P v all) (of-element-set P at to v.elements here (elements-of P v all)) (link-of P v all);
 }
 
 -- the properties and elements of any number

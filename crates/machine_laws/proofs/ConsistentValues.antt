@@ -12,8 +12,9 @@ use Rattle.napi_types.specs.parts.HeapChanges.{with_handle, with_value, with_err
 use Rattle.napi_types.specs.parts.NewValues.{made_after, array_of, list_of, error_of, code_property, thrown_of, thrown_strings}
 use Rattle.napi_types.specs.parts.Reach.{numbers}
 use Rattle.napi_types.specs.parts.Values.{Value, fresh_value, starting_values, value_changed}
+use Rattle.napi_types.proofs.parts.ChildParts.{children-of}
 use Rattle.machine_laws.specs.Consistency.{AreIssued, values_of_handles, IsLiveAmong}
-use Rattle.machine_laws.proofs.Children.{OfChildren, KeepsChildren, named_values, children-of}
+use Rattle.machine_laws.proofs.Children.{OfChildren, KeepsChildren, named_values}
 use Rattle.machine_laws.proofs.Counting.{issued-next}
 use Rattle.machine_laws.proofs.ConsistentHeaps.{IsConsistentHeap, ComesTo, unchanged, and-then, with-handle}
 use Rattle.machine_laws.proofs.LiveNumbers.{live-more, live-made, live-pushed, within-pushed, all-made, numbers-changed, children-changed, filter_map-Some}
@@ -100,7 +101,7 @@ with-list heap bs g =
     let x : Value = array_of (heap.made + length bs + 1) ns in
     let Q : ℕ → Type 0 = IsLiveAmong (one.values ++ x ∷ []) in
     let all : All Q ns = All-weaker (IsLiveAmong one.values) Q (λ n h. live-more n one.values (x ∷ []) h) ns (all-made heap.values heap.made bs) in
-    let own : OfChildren Q x = children-of Q x (All-nil Q) (subst (λ ms. All Q ms) (sym (filter_map-Some ns)) all) in
+    let own : OfChildren Q x = children-of Q x (All-nil Q) (subst (λ ms. All Q ms) (sym (filter_map-Some ns)) all) (All-nil Q) in
     let two : Heap = with_values one (one.values ++ x ∷ []) (one.made + 1) in
     subst (λ vs. ComesTo heap (with_values heap vs (heap.made + length bs + 1))) (append_assoc heap.values ws (x ∷ []))
     (and-then heap one two made (with-pushed one x refl own made.good))
@@ -127,7 +128,7 @@ with-error heap code message known live g =
     let wider : (n : ℕ) → P n → Q n = λ n h. live-more n heap.values (x ∷ []) h in
     let codes : List ℕ = named_values (code_property code) in
     let rest : All Q codes = All-weaker P Q wider codes (of-code P code known) in
-    let own : OfChildren Q x = children-of Q x (All-cons Q message codes (wider message live) rest) (All-nil Q) in
+    let own : OfChildren Q x = children-of Q x (All-cons Q message codes (wider message live) rest) (All-nil Q) (All-nil Q) in
     with-pushed heap x refl own g
   where
     of-code : (P : ℕ → Type 0) (c : Option ℕ) → IfSome c P → All P (named_values (code_property c))

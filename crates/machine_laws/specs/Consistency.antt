@@ -50,7 +50,7 @@ pub record IsConsistent (e : Environment) : Type 0 where
   pub rooted : All (λ r. IsLiveAmong e.heap.values r.value) e.function_roots
   -- the references are a finite map
   pub references : IsMap e.references
-  -- what the properties and elements of a value name is live, and so are the starting values
+  -- the children of a value are live, and so are the starting values
   pub children : All (λ v. All (IsLiveAmong e.heap.values) (children v)) e.heap.values
   pub starting : All (IsLiveAmong e.heap.values) (numbers starting_values)
   -- each frame that stands has its scopes, and no more stand than may

@@ -1,5 +1,5 @@
 -- The value graph of a state, number by number.
-use Rattle.std.proofs.Common.{◌≡◌, ◌≢◌, ◌⊎◌, inl, inr, ◌∙◌, ℕ, zero, suc, ◌+◌, ◌<◌, ◌≤◌, ◌==◌, ◌||◌, Bool, true, false, not, cond, List, [], ◌∷◌, ◌++◌, map, filter, Option, Some, None, IsSome, IfSome, option_map, refl, ap, sym, subst, arith}
+use Rattle.std.proofs.Common.{◌≡◌, ◌≢◌, ◌⊎◌, inl, inr, ◌∙◌, ℕ, zero, suc, ◌+◌, ◌<◌, ◌≤◌, ◌==◌, ◌||◌, Bool, true, false, not, cond, List, [], ◌∷◌, ◌++◌, map, filter, Option, Some, None, IsSome, IfSome, option_map, option_to_list, refl, ap, sym, subst, arith}
 use Rattle.std.specs.List.{All, filter_map, range_with_len, cons_option}
 use Rattle.std.specs.Option.{unwrap_or}
 use Rattle.std.proofs.lemmas.Bool.{eqb-true, eq-eqb}
@@ -8,11 +8,12 @@ use Rattle.napi_types.specs.plain.Lists.{has_number}
 use Rattle.napi_types.specs.parts.Graph.{StoreState, live, IsLive, value_of, number_in, renamed, graph_of}
 use Rattle.napi_types.specs.parts.Properties.{Property}
 use Rattle.napi_types.specs.parts.Values.{Value, children, value_at, value_changed}
+use Rattle.napi_types.proofs.parts.ChildParts.{properties-of, elements-of, link-of}
 use Rattle.value_store.specs.StoreChanges.{MakesValue, ChangesOnly, Frees, CanFree}
 use Rattle.value_store.specs.ValuePlaces.{IsGood}
 use Rattle.value_store.proofs.LiveValues.{values, value_at-numbered, numbered-place, place-value, value-listed, graph_value, graph_value-numbered, number-value, graph-value}
 use Rattle.value_store.proofs.Lookup.{apart-number, other-number}
-use Rattle.value_store.proofs.NamedPlaces.{left, right, to_options}
+use Rattle.value_store.proofs.NamedPlaces.{to_options}
 use Rattle.value_store.proofs.ReadingPlaces.{some-is}
 use Rattle.value_store.proofs.StoreStates.{made-or, live-kept, changed-or, freed-was}
 
@@ -135,12 +136,15 @@ module _ (s t : StoreState) (P : ℕ → Type 0) (same : (m : ℕ) → P m → n
       ap (λ n. Some n ∷ map (option_map (number_in t)) es) (same m (All-head (λ e. IfSome e P) (Some m) es h))
       ∙ ap (λ l. Some (number_in s m) ∷ l) (same-elements es (All-tail (λ e. IfSome e P) (Some m) es h))
 
+  same-link : (o : Option ℕ) → All P (option_to_list o) → option_map (number_in t) o ≡ option_map (number_in s) o
+  same-link None h = refl
+  same-link (Some m) h = ap Some (same m (All-head P m [] h))
+
   pub renamed-same : (v : Value) → All P (children v) → renamed t v ≡ renamed s v
   renamed-same v h =
-      let names : List ℕ = map (λ p. p.value) v.properties in
-      let others : List ℕ = filter_map (λ e. e) v.elements in
-      ap (λ qs. record v { properties = qs; elements = map (option_map (number_in t)) v.elements }) (same-properties v.properties (left P names others h))
-      ∙ ap (λ es. record v { properties = map (λ (p : Property). record p { value = number_in s p.value }) v.properties; elements = es }) (same-elements v.elements (to_options P v.elements (right P names others h)))
+      ap (λ qs. record (renamed t v) { properties = qs }) (same-properties v.properties (properties-of P v h))
+      ∙ ap (λ es. record (renamed s v) { elements = es; link = option_map (number_in t) v.link }) (same-elements v.elements (to_options P v.elements (elements-of P v h)))
+      ∙ ap (λ o. record (renamed s v) { link = o }) (same-link v.link (link-of P v h))
 
 pub number-of-same : (s t : StoreState) (m : ℕ) → value_of t m ≡ value_of s m → number_in t m ≡ number_in s m
 number-of-same s t m same = ap (λ (o : Option Value). unwrap_or (option_map (λ w. w.number) o) 0) same
@@ -215,7 +219,7 @@ module _ (s t : StoreState) (id : ℕ) (change other : Value → Value) (good : 
   renamed-kept : (w : Value) → renamed t w ≡ renamed s w
   renamed-kept w =
       let same : number_in t ≡ number_in s = λ i m. number-kept m i in
-      ap (λ (f : ℕ → ℕ). record w { properties = map (λ (p : Property). record p { value = f p.value }) w.properties; elements = map (option_map f) w.elements }) same
+      ap (λ (f : ℕ → ℕ). record w { properties = map (λ (p : Property). record p { value = f p.value }) w.properties; elements = map (option_map f) w.elements; link = option_map f w.link }) same
 
   abbrev changed : Value → Value
   changed w = cond (w.number == number_in s id) (other w) w

@@ -7,7 +7,7 @@ use Rattle.generation_slab.specs.HeldPlaces.{HeldPlaces, EachStandsOnce as EachH
 use Rattle.napi_types.specs.declared.body.Body.{Body}
 use Rattle.napi_types.specs.parts.Graph.{IsLive, number_in}
 use Rattle.napi_types.specs.parts.NewValues.{made_after, array_of, list_of}
-use Rattle.napi_types.specs.parts.Values.{fresh_value, with_element}
+use Rattle.napi_types.specs.parts.Values.{children, fresh_value, with_element}
 use Rattle.value_store.specs.declared.place.ValuePlace.{ValuePlace}
 use Rattle.value_store.specs.declared.place.ValuePlace.TheVariants.{Plain}
 use Rattle.value_store.specs.declared.record.ValueRecord.{ValueRecord}
@@ -35,6 +35,10 @@ made_after-more n (c ∷ bs) b =
 named-all : (numbers : List ℕ) → filter_map (λ (e : Option ℕ). e) (map Some numbers) ≡ numbers
 named-all [] = refl
 named-all (n ∷ numbers) = ap (λ l. n ∷ l) (named-all numbers)
+
+-- the children of an array are its elements
+array-children : (n : ℕ) (numbers : List ℕ) → children (array_of n numbers) ≡ numbers
+array-children n numbers = append-nil (filter_map (λ (e : Option ℕ). e) (map Some numbers)) ∙ named-all numbers
 
 module _ (old : HeldPlaces ValueRecord) (made : ℕ) (bodies : List Body) where
   -- so many were made as are set
@@ -86,7 +90,7 @@ module _ (old : HeldPlaces ValueRecord) (made : ℕ) (bodies : List Body) where
       subst (λ k. GrowsTo (state_of old made) (state_of new k) (list_of made bodies) id) (moved number made (length bodies) is)
       (subst (λ vs. GrowsTo (state_of old made) (state_of new number) vs id) whole
       (put-last now new (made + at) number id array (array_of number so_far.ids) element adds (is ∙ ap (λ k. made + k + 1) (sym all)) (state_of old made) (made_after made (take at bodies)) so_far.ids so_far.grows
-      distinct-none (subst (λ ns. All (IsLive (state_of now (made + at))) ns) (sym (named-all so_far.ids)) so_far.grows.live)
+      distinct-none (subst (λ ns. All (IsLive (state_of now (made + at))) ns) (sym (array-children number so_far.ids)) so_far.grows.live)
       (array_of number (map (number_in (state_of now (made + at))) so_far.ids)) (sym (array-named (state_of now (made + at)) number so_far.ids))))
     where
       moved : (n m k : ℕ) → n ≡ m + k + 1 → n ≡ m + (k + 1)

@@ -1,5 +1,5 @@
 -- The live values of a sound state, and the graph that it stands for, where no number stands at two places.
-use Rattle.std.proofs.Common.{◌≡◌, ℕ, zero, suc, ◌+◌, ◌<◌, ◌≤◌, ◌==◌, nat_eq, Bool, true, false, cond, List, [], ◌∷◌, ◌++◌, map, ◌||◌, Option, Some, None, IsSome, is_some, option_map, slice_index_or, refl, ap, sym, subst, ◌∙◌, arith}
+use Rattle.std.proofs.Common.{◌≡◌, ℕ, zero, suc, ◌+◌, ◌<◌, ◌≤◌, ◌==◌, nat_eq, Bool, true, false, cond, List, [], ◌∷◌, ◌++◌, map, ◌||◌, Option, Some, None, IsSome, is_some, option_map, option_to_list, slice_index_or, refl, ap, sym, subst, ◌∙◌, arith}
 use Rattle.std.specs.List.{filter_map, range_with_len, cons_option, IsDistinct, AllByRecursion}
 use Rattle.std.specs.Option.{unwrap_or}
 use Rattle.std.proofs.lemmas.List.{map-append}
@@ -141,9 +141,14 @@ range-distinct f numbered from (suc many) = by (f from) refl (range-distinct f n
 
 children-renamed : (s : StoreState) (v : Value) → children (renamed s v) ≡ map (number_in s) (children v)
 children-renamed s v =
-    ap (λ l. l ++ filter_map (λ e. e) (map (option_map (number_in s)) v.elements)) (properties v.properties)
-    ∙ ap (λ l. map (number_in s) (map (λ (p : Property). p.value) v.properties) ++ l) (elements v.elements)
-    ∙ sym (map-append (number_in s) (map (λ (p : Property). p.value) v.properties) (filter_map (λ e. e) v.elements))
+    let ps : List ℕ = map (λ (p : Property). p.value) v.properties in
+    let es : List ℕ = filter_map (λ (e : Option ℕ). e) v.elements in
+    let to : List ℕ = option_to_list (option_map (number_in s) v.link) in
+    ap (λ l. l ++ filter_map (λ e. e) (map (option_map (number_in s)) v.elements) ++ to) (properties v.properties)
+    ∙ ap (λ l. map (number_in s) ps ++ l ++ to) (elements v.elements)
+    ∙ ap (λ l. l ++ to) (sym (map-append (number_in s) ps es))
+    ∙ ap (λ l. map (number_in s) (ps ++ es) ++ l) (link v.link)
+    ∙ sym (map-append (number_in s) (ps ++ es) (option_to_list v.link))
   where
     properties : (ps : List Property) → map (λ (p : Property). p.value) (map (λ (p : Property). record p { value = number_in s p.value }) ps) ≡ map (number_in s) (map (λ p. p.value) ps)
     properties [] = refl
@@ -153,6 +158,10 @@ children-renamed s v =
     elements [] = refl
     elements (None ∷ es) = elements es
     elements (Some m ∷ es) = ap (λ l. number_in s m ∷ l) (elements es)
+
+    link : (o : Option ℕ) → option_to_list (option_map (number_in s) o) ≡ map (number_in s) (option_to_list o)
+    link None = refl
+    link (Some m) = refl
 
 -- a live value's number is its creation number
 pub number-value : (s : StoreState) (id : ℕ) (v : Value) → value_of s id ≡ Some v → number_in s id ≡ v.number

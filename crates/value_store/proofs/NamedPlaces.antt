@@ -6,16 +6,9 @@ use Rattle.std.proofs.lemmas.List.Elements.{All-nil, All-cons, All-head, All-tai
 use Rattle.napi_types.specs.plain.Lists.{found, has_number}
 use Rattle.napi_types.specs.parts.Properties.{Property, property_set, property_removed, property_at, element_at, element_set}
 use Rattle.napi_types.specs.parts.Values.{Value, children, with_property, without_property, with_element}
+use Rattle.napi_types.proofs.parts.ChildParts.{children-of, properties-of, elements-of, link-of}
 
 module _ (P : ℕ → Type 0) where
-  pub left : (xs ys : List ℕ) → All P (xs ++ ys) → All P xs
-  left [] ys h = All-nil P
-  left (x ∷ xs) ys h = All-cons P x xs (All-head P x (xs ++ ys) h) (left xs ys (All-tail P x (xs ++ ys) h))
-
-  pub right : (xs ys : List ℕ) → All P (xs ++ ys) → All P ys
-  right [] ys h = h
-  right (x ∷ xs) ys h = right xs ys (All-tail P x (xs ++ ys) h)
-
   set_names : (name to : ℕ) (ps : List Property) → P to → All P (map (λ p. p.value) ps) → All P (map (λ p. p.value) (property_set name to ps))
   set_names name to [] new h = All-cons P to [] new (All-nil P)
   set_names name to (p ∷ ps) new h = by (set_names name to ps new (All-tail P p.value (map (λ q. q.value) ps) h)) (p.name == name)
@@ -45,29 +38,24 @@ module _ (P : ℕ → Type 0) where
   -- a property that is set names its value, and what was named before
   pub children-with_property : (name to : ℕ) (v : Value) → P to → All P (children v) → All P (children (with_property name to v))
   children-with_property name to v new h =
-      let ps : List ℕ = map (λ p. p.value) v.properties in
-      let es : List ℕ = filter_map (λ e. e) v.elements in
-      All-append P (map (λ p. p.value) (property_set name to v.properties)) es (set_names name to v.properties new (left ps es h)) (right ps es h)
+      children-of P (with_property name to v) (set_names name to v.properties new (properties-of P v h)) (elements-of P v h) (link-of P v h)
 
   pub children-without_property : (name : ℕ) (v : Value) → All P (children v) → All P (children (without_property name v))
   children-without_property name v h =
-      let ps : List ℕ = map (λ p. p.value) v.properties in
-      let es : List ℕ = filter_map (λ e. e) v.elements in
-      All-append P (map (λ p. p.value) (property_removed name v.properties)) es (removed_names name v.properties (left ps es h)) (right ps es h)
+      children-of P (without_property name v) (removed_names name v.properties (properties-of P v h)) (elements-of P v h) (link-of P v h)
 
   pub children-with_element : (at to : ℕ) (v : Value) → P to → All P (children v) → All P (children (with_element at to v))
   children-with_element at to v new h =
-      let ps : List ℕ = map (λ p. p.value) v.properties in
-      let es : List ℕ = filter_map (λ e. e) v.elements in
       let holes : List (Option ℕ) = replicate (at + 1 - length v.elements) None in
-      All-append P ps (filter_map (λ e. e) (element_set at to v.elements)) (left ps es h)
+      children-of P (with_element at to v) (properties-of P v h)
       (from_options (element_set at to v.elements)
       (All-set (λ e. IfSome e P) (v.elements ++ holes) at (Some to) new
-      (All-append (λ e. IfSome e P) v.elements holes (to_options v.elements (right ps es h)) (All-replicate (λ e. IfSome e P) (at + 1 - length v.elements) None tt))))
+      (All-append (λ e. IfSome e P) v.elements holes (to_options v.elements (elements-of P v h)) (All-replicate (λ e. IfSome e P) (at + 1 - length v.elements) None tt))))
+      (link-of P v h)
 
   -- the value of a property is named
   pub property-named : (name : ℕ) (v : Value) → All P (children v) → IfSome (property_at name v.properties) P
-  property-named name v h = among v.properties (left (map (λ p. p.value) v.properties) (filter_map (λ e. e) v.elements) h)
+  property-named name v h = among v.properties (properties-of P v h)
     where
       among : (ps : List Property) → All P (map (λ p. p.value) ps) → IfSome (property_at name ps) P
       among [] h = tt
@@ -78,7 +66,7 @@ module _ (P : ℕ → Type 0) where
           by rest false = rest
 
   pub element-named : (at : ℕ) (v : Value) → All P (children v) → IfSome (element_at at v.elements) P
-  element-named at v h = among v.elements at (to_options v.elements (right (map (λ p. p.value) v.properties) (filter_map (λ e. e) v.elements) h))
+  element-named at v h = among v.elements at (to_options v.elements (elements-of P v h))
     where
       among : (es : List (Option ℕ)) (at : ℕ) → All (λ e. IfSome e P) es → IfSome (element_at at es) P
       among [] at h = tt

@@ -41,14 +41,13 @@ module _ (s : StoreState) where
       ∙ ap (λ l. map (option_map (number_in s)) es ++ l) (map-holes (at + 1 - length es) ∙ ap (λ n. replicate (at + 1 - n) None) (sym (length-map es (option_map (number_in s))))))
 
   pub property-named-so : (name to : ℕ) (v : Value) → renamed s (with_property name to v) ≡ with_property name (number_in s to) (renamed s v)
-  property-named-so name to v = ap (λ ps. record v { properties = ps; elements = map (option_map (number_in s)) v.elements }) (set-named name to v.properties)
+  property-named-so name to v = ap (λ ps. record (renamed s v) { properties = ps }) (set-named name to v.properties)
 
   pub removal-named-so : (name : ℕ) (v : Value) → renamed s (without_property name v) ≡ without_property name (renamed s v)
-  removal-named-so name v = ap (λ ps. record v { properties = ps; elements = map (option_map (number_in s)) v.elements }) (removed-named name v.properties)
+  removal-named-so name v = ap (λ ps. record (renamed s v) { properties = ps }) (removed-named name v.properties)
 
   pub element-named-so : (at to : ℕ) (v : Value) → renamed s (with_element at to v) ≡ with_element at (number_in s to) (renamed s v)
-  element-named-so at to v =
-      ap (λ es. record v { properties = map (λ (p : Property). record p { value = number_in s p.value }) v.properties; elements = es }) (elements-named at to v.elements)
+  element-named-so at to v = ap (λ es. record (renamed s v) { elements = es }) (elements-named at to v.elements)
 
   -- an array's elements are named as they are
   all-named : (ids : List ℕ) → map (option_map (number_in s)) (map Some ids) ≡ map Some (map (number_in s) ids)

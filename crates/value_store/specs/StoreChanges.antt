@@ -49,7 +49,7 @@ pub record MakesValue (old new : StoreState) (id : ℕ) (v : Value) : Type 0 whe
   pub issued : (n : ℕ) → has_number n new.issued ≡ ((n == id) || has_number n old.issued)
   pub made : new.made ≡ old.made + 1
 
--- the value that is made has the next creation number, no properties and no elements
+-- the value that is made has the next creation number, no properties, no elements and no link
 abbrev pub MakesFresh : StoreState → StoreState → ℕ → Body → Type 0
 MakesFresh old new id b = MakesValue old new id (fresh_value (old.made + 1) b)
 

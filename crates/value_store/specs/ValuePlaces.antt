@@ -16,11 +16,11 @@ use Rattle.value_store.specs.PropertyMaps.{one_property}
 use Rattle.value_store.specs.declared.record.ValueRecord.{ValueRecord}
 use Rattle.value_store.specs.StoreChanges.{EachStandsOnce, IsStarting, IsFresh}
 
--- the value with this creation number that is and has this
+-- the value with this creation number that is and has this. The store keeps no links so far: no value of it has one
 abbrev pub value_here : ℕ → ValuePlace → Value
 value_here n (Plain b) = fresh_value n b
-value_here n (One name to b) = record { number = n; body = b; properties = one_property name to; elements = [] }
-value_here n (Full b parts) = record { number = n; body = b; properties = parts.value.properties; elements = parts.value.elements }
+value_here n (One name to b) = record (fresh_value n b) { properties = one_property name to }
+value_here n (Full b parts) = record (fresh_value n b) { properties = parts.value.properties; elements = parts.value.elements }
 
 -- its properties and its elements
 abbrev pub properties_here : ValuePlace → List Property

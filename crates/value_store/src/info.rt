@@ -1,5 +1,5 @@
 //! A value, as a store lends it.
-ghost use Rattle.std.specs.Prelude.{◌≡◌, ◌<◌, [], length, option_map, slice_get, Some};
+ghost use Rattle.std.specs.Prelude.{◌≡◌, ◌<◌, length, option_map, slice_get, Some};
 ghost use Rattle.napi_types.specs.plain.Lists.{HaveSameNumbers};
 ghost use Rattle.napi_types.specs.parts.Properties.{property_at, element_at};
 ghost use Rattle.napi_types.specs.parts.Values.{fresh_value, children};
@@ -34,6 +34,7 @@ pub struct ValueInfo<'a> {
 }
 
 impl<'a> Model for ValueInfo<'a> {
+    ghost use Rattle.std.specs.Prelude.{None};
     ghost use Rattle.napi_types.specs.parts.Values.{Value as GraphValue};
     ghost use Rattle.value_store.specs.NamedParts.{properties_named, elements_named};
 
@@ -44,6 +45,7 @@ impl<'a> Model for ValueInfo<'a> {
       body = info.body;
       properties = properties_named info.named;
       elements = elements_named info.named;
+      link = None;
     } };
 }
 
@@ -61,7 +63,7 @@ impl<'a> ValueInfo<'a> {
 
     /// A value with one property, and no elements.
     pub(crate) fn one(number: u64, body: Body, name: TextNo, to: ValueId) -> ValueInfo<'a>
-        ensures { result ≡ record { number = number; body = body; properties = one_property name to; elements = [] } }
+        ensures { result ≡ record (fresh_value number body) { properties = one_property name to } }
     {
         ValueInfo {
             number,
@@ -72,7 +74,7 @@ impl<'a> ValueInfo<'a> {
 
     /// A value with these properties and elements.
     pub(crate) fn full(number: u64, body: Body, parts: &'a Parts) -> ValueInfo<'a>
-        ensures { result ≡ record { number = number; body = body; properties = parts.now.properties; elements = parts.now.elements } }
+        ensures { result ≡ record (fresh_value number body) { properties = parts.now.properties; elements = parts.now.elements } }
     {
         ValueInfo {
             number,

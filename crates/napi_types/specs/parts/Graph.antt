@@ -6,7 +6,7 @@ use Rattle.napi_types.specs.plain.Lists.{found, has_number}
 use Rattle.napi_types.specs.parts.Properties.{Property, HasDistinctNames}
 use Rattle.napi_types.specs.parts.Values.{Value, children, value_at}
 
--- a value that stands in a store: the number that names it, and the value. Its properties and elements name other values by such numbers
+-- a value that stands in a store: the number that names it, and the value. Its properties, elements and link name other values by such numbers
 pub record Stored : Type 0 where
   pub id : ℕ
   pub value : Value
@@ -42,6 +42,7 @@ abbrev pub renamed : StoreState → Value → Value
 renamed s v = record v {
   properties = map (λ (p : Property). record p { value = number_in s p.value }) v.properties;
   elements = map (option_map (number_in s)) v.elements;
+  link = option_map (number_in s) v.link;
 }
 
 -- the value graph that a store's state stands for: its live values in the order in which they were made, each under its creation number

@@ -15,7 +15,7 @@ code_property (Some code) = record { name = code_text; value = code } ∷ []
 
 -- an error: an object with the properties `message` and, where a code is given, `code`, in this order
 abbrev pub error_of : ℕ → Option ℕ → ℕ → Value
-error_of n code message = record { number = n; body = body.Object false true; properties = record { name = message_text; value = message } ∷ code_property code; elements = [] }
+error_of n code message = record (fresh_value n (body.Object false true)) { properties = record { name = message_text; value = message } ∷ code_property code }
 
 -- new values of these bodies, where so many were made before
 abbrev pub made_after : ℕ → List Body → List Value
@@ -24,7 +24,7 @@ made_after n (b ∷ bs) = fresh_value (n + 1) b ∷ made_after (n + 1) bs
 
 -- an array of the values of these numbers
 abbrev pub array_of : ℕ → List ℕ → Value
-array_of n numbers = record { number = n; body = body.Object true false; properties = []; elements = map Some numbers }
+array_of n numbers = record (fresh_value n (body.Object true false)) { elements = map Some numbers }
 
 -- new values of these bodies, and then an array of them
 abbrev pub list_of : ℕ → List Body → List Value

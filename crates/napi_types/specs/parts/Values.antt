@@ -1,21 +1,23 @@
 -- The value graph: a finite map from creation numbers to values.
-use Rattle.std.specs.Prelude.{ℕ, ◌==◌, true, false, cond, List, [], ◌∷◌, ◌++◌, map, filter_map, Option, option_map, not, filter}
-use Rattle.std.specs.Option.{unwrap_or}
+use Rattle.std.specs.Prelude.{ℕ, ◌==◌, true, false, cond, List, [], ◌∷◌, ◌++◌, map, filter_map, Option, None, option_map, not, filter}
+use Rattle.std.specs.Option.{unwrap_or, option_to_list}
 use Rattle.napi_types.specs.declared.body.Body.{Body}
 use Rattle.napi_types.specs.declared.body.Body.TheVariants as body
 use Rattle.napi_types.specs.plain.Lists.{found, has_number}
 use Rattle.napi_types.specs.parts.Properties.{Property, property_set, property_removed, element_set}
 
--- a value: its creation number, what it is, its properties in the order in which their names were first set, and its elements, each a value's number or a hole
+-- a value: its creation number, what it is, its properties in the order in which their names were first set, and its elements, each a value's number or a hole.
+-- Its link is one child more, by its number: a hidden one, which no property and no element names. Nobody sets a link yet
 pub record Value : Type 0 where
   pub number : ℕ
   pub body : Body
   pub properties : List Property
   pub elements : List (Option ℕ)
+  pub link : Option ℕ
 
--- a value as it is made: its number and what it is, with no properties and no elements
+-- a value as it is made: its number and what it is, with no properties, no elements and no link
 abbrev pub fresh_value : ℕ → Body → Value
-fresh_value n b = record { number = n; body = b; properties = []; elements = [] }
+fresh_value n b = record { number = n; body = b; properties = []; elements = []; link = None }
 
 -- undefined, null, true, false and the global object have the numbers 1 to 5
 abbrev pub undefined_value : ℕ
@@ -53,9 +55,9 @@ properties_of vs n = unwrap_or (option_map (λ v. v.properties) (value_at vs n))
 abbrev pub elements_of : List Value → ℕ → List (Option ℕ)
 elements_of vs n = unwrap_or (option_map (λ v. v.elements) (value_at vs n)) []
 
--- the values that a value's properties and elements name: what it reaches in one step
+-- the values that a value's properties and elements name, and its link: what it reaches in one step
 abbrev pub children : Value → List ℕ
-children v = map (λ p. p.value) v.properties ++ filter_map (λ e. e) v.elements
+children v = map (λ p. p.value) v.properties ++ filter_map (λ e. e) v.elements ++ option_to_list v.link
 
 -- the value with a property set
 abbrev pub with_property : ℕ → ℕ → Value → Value
