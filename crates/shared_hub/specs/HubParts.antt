@@ -39,24 +39,6 @@ pub record ArePartsWithin (p : HubParts) : Type 0 where
   pub places : parts_places p ≤ most_entries
 
 -- CALLS
--- the call is on works, or on thread-safe functions
-abbrev pub IsOnWorks : Call → Type 0
-IsOnWorks (call.CreateAsyncWork job entry payload) = Unit {0}
-IsOnWorks (call.DeleteAsyncWork w) = Unit {0}
-IsOnWorks (call.CancelAsyncWork w) = Unit {0}
-IsOnWorks (call.QueueAsyncWork w) = Unit {0}
-IsOnWorks _ = ⊥
-
-abbrev pub IsOnFunctions : Call → Type 0
-IsOnFunctions (call.CreateThreadsafeFunction f entry maximum count finalizer context) = Unit {0}
-IsOnFunctions (call.CallThreadsafeFunction f payload m) = Unit {0}
-IsOnFunctions (call.AcquireThreadsafeFunction f) = Unit {0}
-IsOnFunctions (call.ReleaseThreadsafeFunction f m) = Unit {0}
-IsOnFunctions (call.RefThreadsafeFunction f) = Unit {0}
-IsOnFunctions (call.UnrefThreadsafeFunction f) = Unit {0}
-IsOnFunctions (call.GetThreadsafeFunctionContext f) = Unit {0}
-IsOnFunctions _ = ⊥
-
 -- the call is on a function that is there, and neither makes nor calls it
 abbrev pub IsOnFunctionThere : Call → Type 0
 IsOnFunctionThere (call.AcquireThreadsafeFunction f) = Unit {0}

@@ -1,6 +1,7 @@
 //! The works and the thread-safe functions of a hub: what they answer to each shared call, and what they do of their own.
 ghost use Rattle.std.specs.Prelude.{◌≡◌, ◌↔◌, ◌+◌, ◌≤◌, ◌<◌, ◌&&◌, [], true, false, not, length, sum_by, is_some, option_map, Some, None, IfOk, IfSome, OnErr, IsTrue};
 ghost use Rattle.napi_types.specs.parts.Pool.{new_pool, first_completion, executed_by, value_of_work, with_started, with_finished};
+ghost use Rattle.napi_types.specs.plain.CallFacts.{group_of};
 ghost use Rattle.napi_types.specs.plain.Guards.{is_shared, is_growing};
 ghost use Rattle.napi_types.specs.plain.Lists.{is_empty};
 ghost use Rattle.napi_types.specs.hub.Hub.{Hub};
@@ -16,7 +17,7 @@ mod works;
 
 use crate::tries::Polled;
 use async_work::{Job, Picked, Pool, Ran};
-use napi_types::{Actor, Call, Given, NoMemory, Reply, TsfnId};
+use napi_types::{Actor, Call, CallGroup, Given, NoMemory, Reply, TsfnId};
 use std::alloc::Global;
 use std::marker::Model;
 use tsfn::{Functions, Moved};
@@ -47,7 +48,7 @@ impl<J: Job> SharedParts<J> {
         })
     }
 
-    /// The hub's answer to a shared call that the environment does not refuse, whoever makes it. `None` where it waits.
+    /// The hub's answer to a shared call of this group that the environment does not refuse, whoever makes it. `None` where it waits.
     ///
     /// Memory is wanted only by a call that grows, and only where it would be accepted.
     pub(crate) fn answer(
@@ -55,8 +56,10 @@ impl<J: Job> SharedParts<J> {
         who: Actor,
         given: &Given,
         call: &Call,
+        group: CallGroup,
     ) -> Result<Option<Reply>, NoMemory>
         requires shared { IsTrue (is_shared call.now) }
+        requires group { group ≡ group_of call.now }
         requires within { ArePartsWithin self.old }
         requires queueing { MayQueue call.now self.old }
         requires makeable { IsMakeable given.now call.now }
@@ -65,12 +68,10 @@ impl<J: Job> SharedParts<J> {
         ensures accepted { OnErr result ((h : Hub) → WouldAccept (hub_with self.old h) who given.now call.now) }
         ensures err { OnErr result (self.new ≡ self.old) }
     {
-        match call {
-            Call::CreateAsyncWork(..)
-            | Call::DeleteAsyncWork(..)
-            | Call::CancelAsyncWork(..)
-            | Call::QueueAsyncWork(..) => Ok(Some(self.answer_on_works(given, call)?)),
-            _ => self.answer_on_functions(who, given, call),
+        match group {
+            CallGroup::OnWorks => Ok(Some(self.answer_on_works(given, call)?)),
+            CallGroup::OnThreads => self.answer_on_functions(who, given, call),
+            _ => unreachable!(),
         }
     }
 

@@ -1,27 +1,11 @@
 //! The room in the history.
-ghost use Rattle.std.specs.Prelude.{◌≡◌, ◌⊎◌, ◌+◌, ◌<◌, ◌≤◌, ◌↔◌, length, min, vec_capacity, IsTrue, IfErr, OnOk};
-ghost use Rattle.napi_types.specs.plain.Guards.{is_shared};
-ghost use Rattle.napi_types.specs.plain.Room.{need, first_places, most_entries};
+ghost use Rattle.std.specs.Prelude.{◌≡◌, ◌⊎◌, ◌+◌, ◌<◌, ◌≤◌, ◌↔◌, length, min, vec_capacity, IfErr, OnOk};
+ghost use Rattle.napi_types.specs.plain.Room.{first_places, most_entries};
 
-use napi_types::{Call, Entry, Status};
+use napi_types::{Entry, Status};
 
 /// How many places of the history have their memory from the start.
 pub(crate) const FIRST_PLACES: u32 = 65536;
-
-/// How many places of the history a shared call needs, counted as if it were accepted.
-pub(crate) fn places_needed(call: &Call) -> u32
-    requires { IsTrue (is_shared call.now) }
-    ensures { result ≡ need call.now }
-{
-    match call {
-        Call::QueueAsyncWork(_) => 5,
-        Call::CreateThreadsafeFunction(_, _, _, _, finalizer, _) => {
-            if finalizer.is_some() { 5 } else { 3 }
-        }
-        Call::CallThreadsafeFunction(..) => 3,
-        _ => 1,
-    }
-}
 
 /// Takes the memory for so many places more than the history's entries and the places that it owes: `TraceFull` exactly where they pass
 /// the limit, and `NoMemory` only where they pass the first places.

@@ -2,6 +2,7 @@
 ghost use Rattle.std.specs.Prelude.{◌≡◌, ◌⊎◌, ◌+◌, ◌≤◌, ◌↔◌, None, Some, true, IfOk, IfErr, OnErr, IsTrue};
 ghost use Rattle.napi_types.specs.declared.entry.Actor.TheVariants as actor;
 ghost use Rattle.napi_types.specs.environment.SharedCalls.{handed_entry as entry_handed};
+ghost use Rattle.napi_types.specs.plain.CallFacts.{group_of};
 ghost use Rattle.napi_types.specs.plain.Guards.{is_shared, is_growing};
 ghost use Rattle.napi_types.specs.plain.Room.{is_full};
 ghost use Rattle.napi_types.specs.hub.GivenSteps.{is_timely};
@@ -17,10 +18,12 @@ ghost use Rattle.shared_hub.specs.SharedTries.{given_by, IsOwnRefusal, NamesTarg
 use super::HubState;
 use crate::naming::Naming;
 use crate::parts::SharedParts;
-use crate::room::{make_room, places_needed};
+use crate::room::make_room;
 use crate::tries::ThreadTried;
 use async_work::Job;
-use napi_types::{Actor, Call, Entry, Given, NoMemory, Out, Reply, SharedCall, Status, What};
+use napi_types::{
+    Actor, Call, CallGroup, Entry, Given, NoMemory, Out, Reply, SharedCall, Status, What,
+};
 
 /// What a thread hands to the hub with its call.
 const NOTHING_GIVEN: Given = Given {
@@ -53,14 +56,10 @@ impl<J: Job, N: Naming> HubState<J, N> {
             → MayFindNoMemory (hub_room N.numbers self.old) self.old.hub actor.Env (given_by call.now) call.now.call }
         ensures cause { IfErr result (λ status. (status ≡ Status.TraceFull) ⊎ (status ≡ Status.NoMemory)) }
     {
+        let facts = call.call.facts();
         let reserved = self.reserved();
-        make_room(
-            &mut self.entries,
-            self.limit,
-            reserved,
-            places_needed(&call.call),
-        )?;
-        let reply = reply_to(&mut self.parts, call)?;
+        make_room(&mut self.entries, self.limit, reserved, facts.places)?;
+        let reply = reply_to(&mut self.parts, call, facts.group)?;
         self.sleepers.after_call(&call.call, reply.status);
         self.entries.push_reserved(handed_entry(call, reply));
         Ok(reply)
@@ -85,19 +84,15 @@ impl<J: Job, N: Naming> HubState<J, N> {
             → MayFindNoMemory (hub_room N.numbers self.old) self.old.hub (actor.Thread thread) nothing_given call.now }
         ensures cause { IfStopped result (λ status. (status ≡ Status.TraceFull) ⊎ (status ≡ Status.NoMemory)) }
     {
+        let facts = call.facts();
         let reserved = self.reserved();
-        if let Err(status) = make_room(
-            &mut self.entries,
-            self.limit,
-            reserved,
-            places_needed(call),
-        ) {
+        if let Err(status) = make_room(&mut self.entries, self.limit, reserved, facts.places) {
             self.sleepers.note_entry();
             return ThreadTried::Stop(status);
         }
         match self
             .parts
-            .answer(Actor::Thread(thread), &NOTHING_GIVEN, call)
+            .answer(Actor::Thread(thread), &NOTHING_GIVEN, call, facts.group)
         {
             Ok(Some(reply)) => {
                 self.sleepers.note_entry();
@@ -115,9 +110,14 @@ impl<J: Job, N: Naming> HubState<J, N> {
     }
 }
 
-/// The reply to a shared call: the environment's own refusal, or the hub's answer.
-fn reply_to<J: Job>(parts: &mut SharedParts<J>, call: &SharedCall) -> Result<Reply, Status>
+/// The reply to a shared call of this group: the environment's own refusal, or the hub's answer.
+fn reply_to<J: Job>(
+    parts: &mut SharedParts<J>,
+    call: &SharedCall,
+    group: CallGroup,
+) -> Result<Reply, Status>
     requires shared { IsTrue (is_shared call.now.call) }
+    requires group { group ≡ group_of call.now.call }
     requires within { ArePartsWithin parts.old }
     requires queueing { call.now.refused ≡ None → MayQueue call.now.call parts.old }
     requires makeable { call.now.refused ≡ None → IsMakeable (given_by call.now) call.now.call }
@@ -131,7 +131,7 @@ fn reply_to<J: Job>(parts: &mut SharedParts<J>, call: &SharedCall) -> Result<Rep
     if let Some(status) = call.refused {
         return Ok(Reply::plain(status, Out::Nothing));
     }
-    match parts.answer(Actor::Env, &given_of(call), &call.call) {
+    match parts.answer(Actor::Env, &given_of(call), &call.call, group) {
         Ok(Some(reply)) => Ok(reply),
         Ok(None) => unreachable!(),
         Err(NoMemory) => Err(Status::NoMemory),

@@ -5,14 +5,17 @@ ghost use Rattle.napi_types.specs.declared.entry.Actor.{Actor};
 ghost use Rattle.napi_types.specs.declared.entry.Given.{Given};
 ghost use Rattle.napi_types.specs.declared.ids.HandleId.{HandleId};
 ghost use Rattle.napi_types.specs.hub.Hub.{Hub};
+ghost use Rattle.napi_types.specs.plain.CallFacts.{group_of};
 ghost use Rattle.napi_types.specs.plain.Guards.{is_growing};
 ghost use Rattle.napi_types.specs.plain.Replies.{plain};
 ghost use Rattle.shared_hub.specs.FunctionReplies.{creation_told, call_told, item_told};
-ghost use Rattle.shared_hub.specs.HubParts.{hub_with, ArePartsWithin, IsMakeable, IsOnFunctions, IsOnFunctionThere, AnswersWith, AnswersOrWaits, WouldAccept};
+ghost use Rattle.shared_hub.specs.HubParts.{hub_with, ArePartsWithin, IsMakeable, IsOnFunctionThere, AnswersWith, AnswersOrWaits, WouldAccept};
 
 use super::SharedParts;
 use async_work::Job;
-use napi_types::{Actor, Call, Duty, Given, Mode, NoMemory, Out, Release, Reply, Status, TsfnId};
+use napi_types::{
+    Actor, Call, CallGroup, Duty, Given, Mode, NoMemory, Out, Release, Reply, Status, TsfnId,
+};
 use tsfn::{Tried, TsfnNew};
 
 impl<J: Job> SharedParts<J> {
@@ -23,7 +26,7 @@ impl<J: Job> SharedParts<J> {
         given: &Given,
         call: &Call,
     ) -> Result<Option<Reply>, NoMemory>
-        requires on_functions { IsOnFunctions call.now }
+        requires on_functions { group_of call.now ≡ CallGroup.OnThreads }
         requires within { ArePartsWithin self.old }
         requires makeable { IsMakeable given.now call.now }
         ensures ok { IfOk result (λ reply. AnswersOrWaits self.old who given.now call.now reply self.new) }

@@ -4,17 +4,18 @@ ghost use Rattle.napi_types.specs.declared.call.Call.TheVariants as call_of;
 ghost use Rattle.napi_types.specs.declared.entry.Actor.{Actor};
 ghost use Rattle.napi_types.specs.declared.entry.Given.{Given};
 ghost use Rattle.napi_types.specs.hub.Hub.{Hub};
+ghost use Rattle.napi_types.specs.plain.CallFacts.{group_of};
 ghost use Rattle.napi_types.specs.plain.Guards.{is_growing};
-ghost use Rattle.shared_hub.specs.HubParts.{hub_with, ArePartsWithin, MayQueue, IsOnWorks, AnswersWith, WouldAccept};
+ghost use Rattle.shared_hub.specs.HubParts.{hub_with, ArePartsWithin, MayQueue, AnswersWith, WouldAccept};
 
 use super::SharedParts;
 use async_work::Job;
-use napi_types::{Call, Duty, Given, JobSpec, NoMemory, Out, Reply, Status, WorkId};
+use napi_types::{Call, CallGroup, Duty, Given, JobSpec, NoMemory, Out, Reply, Status, WorkId};
 
 impl<J: Job> SharedParts<J> {
     /// The hub's answer to a call that makes, deletes, cancels or queues a work.
     pub(super) fn answer_on_works(&mut self, given: &Given, call: &Call) -> Result<Reply, NoMemory>
-        requires on_works { IsOnWorks call.now }
+        requires on_works { group_of call.now ≡ CallGroup.OnWorks }
         requires within { ArePartsWithin self.old }
         requires queueing { MayQueue call.now self.old }
         ensures ok { (who : Actor) → IfOk result (λ reply. AnswersWith self.old who given.now call.now reply self.new) }

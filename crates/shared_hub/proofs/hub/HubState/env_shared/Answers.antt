@@ -28,7 +28,7 @@ returns-in_err-reply-clause-memory g c = λ stops.
     let reserved : c.reserved-reserved.result ≡ reserved_history h = rw (← c.self.view_is) at c.reserved-reserved.ensures in
     rw (← c.self.view_is)
     (finds-none g.N.Naming.numbers s.entries.items s.limit _ s.parts s.progress actor.Env (given_by c.args.call.now) c.args.call.now.call c.self.invariant.0 c.self.invariant.1
-    (rw (c.places_needed.ensures, reserved) at c.in_ok-make_room.ensures.room) c.in_err-reply.ensures.grows c.in_err-reply.ensures.unrefused c.in_err-reply.ensures.accepted)
+    (rw (c.facts-facts.ensures.places, reserved) at c.in_ok-make_room.ensures.room) c.in_err-reply.ensures.grows c.in_err-reply.ensures.unrefused c.in_err-reply.ensures.accepted)
 
 comes : (g : _) (c : After-push_reserved g) → ComesNext (led_by g.N.Naming.numbers c.self.inside.entries.items) (handed_entry c.args.call.now c.in_ok-reply.reply)
     (hub_with c.reply_to.new.parts (led_by g.N.Naming.numbers c.self.inside.entries.items))
@@ -48,8 +48,8 @@ invariant_of-self-2 g c =
     rw (c.push_reserved.ensures.items, c.make_room.ensures.items, c.handed_entry.ensures)
     (call-kept g.N.Naming.numbers s.entries.items s.limit _ _ (handed_entry c.args.call.now c.in_ok-reply.reply) c.args.call.now.call (hub_with c.reply_to.new.parts h) c.reply_to.new.parts s.progress
     c.self.invariant.0 (comes g c) refl (parts-changed h s.parts c.reply_to.new.parts s.progress c.self.invariant.1)
-    (rw (c.places_needed.ensures, reserved) at c.in_ok-make_room.ensures.room)
-    (rw (c.places_needed.ensures, reserved, ← c.push_reserved.ensures.capacity) at c.in_ok-make_room.ensures.memory)
+    (rw (c.facts-facts.ensures.places, reserved) at c.in_ok-make_room.ensures.room)
+    (rw (c.facts-facts.ensures.places, reserved, ← c.push_reserved.ensures.capacity) at c.in_ok-make_room.ensures.memory)
     (rw c.push_reserved.ensures.capacity (far _ _ _ c.self.invariant.0.first c.make_room.ensures.capacity)))
 
 pub returns-clause-next : goal.returns-clause-next

@@ -34,8 +34,8 @@ invariant_of-self-in-Ok-Some g c =
     rw (c.push_reserved.ensures.items, c.make_room.ensures.items, c.thread_entry.ensures)
     (call-kept g.N.Naming.numbers s.entries.items s.limit _ _ (thread_entry c.args.thread c.args.step c.args.call.now c.in-Ok-Some.reply) c.args.call.now (hub_with c.answer.new.self h) c.answer.new.self s.progress
     c.self.invariant.0 (comes g c) refl (parts-changed h s.parts c.answer.new.self s.progress c.self.invariant.1)
-    (rw (c.places_needed.ensures, reserved) at c.in_default.ensures.room)
-    (rw (c.places_needed.ensures, reserved, ← c.push_reserved.ensures.capacity) at c.in_default.ensures.memory)
+    (rw (c.facts-facts.ensures.places, reserved) at c.in_default.ensures.room)
+    (rw (c.facts-facts.ensures.places, reserved, ← c.push_reserved.ensures.capacity) at c.in_default.ensures.memory)
     (rw c.push_reserved.ensures.capacity (far _ _ _ c.self.invariant.0.first c.make_room.ensures.capacity)))
 
 pub returns-in-Ok-Some-clause-reply : goal.returns-in-Ok-Some-clause-reply
@@ -61,4 +61,4 @@ returns-in-Err-answer-clause-memory g c = λ stops.
     let reserved : c.reserved-reserved.result ≡ reserved_history h = rw (← c.self.view_is) at c.reserved-reserved.ensures in
     rw (← c.self.view_is)
     (finds-none g.N.Naming.numbers s.entries.items s.limit _ s.parts s.progress (actor.Thread c.args.thread) nothing_given c.args.call.now c.self.invariant.0 c.self.invariant.1
-    (rw (c.places_needed.ensures, reserved) at c.in_default.ensures.room) c.in-Err-answer.ensures.grows refl c.in-Err-answer.ensures.accepted)
+    (rw (c.facts-facts.ensures.places, reserved) at c.in_default.ensures.room) c.in-Err-answer.ensures.grows refl c.in-Err-answer.ensures.accepted)
