@@ -1,5 +1,5 @@
 -- The environment's state as the machine sees it.
-use Rattle.std.specs.Prelude.{◌≡◌, ℕ, ◌+◌, ◌<◌, ◌^◌, Bool, true, false, not, List, ◌∷◌, length, map, Option, None, option_map, IfSome, IsTrue}
+use Rattle.std.specs.Prelude.{◌≡◌, ℕ, ◌+◌, ◌<◌, ◌^◌, Bool, true, false, List, ◌∷◌, length, map, Option, None, option_map, IfSome, IsTrue}
 use Rattle.napi_types.specs.declared.call.Args.{Args}
 use Rattle.napi_types.specs.declared.call.Call.{Call}
 use Rattle.napi_types.specs.declared.call.Call.TheVariants as call
@@ -98,11 +98,6 @@ pub record FindsNoMemory (old : Environment) (c : Call) (refused : Option Status
   pub same : new ≡ old
   pub grows : IsTrue (is_growing c)
   pub unrefused : refused ≡ None
-
--- a call of a kind that never grows
-abbrev pub never_grows : Call → Bool
-never_grows (call.SetInstanceData _ _ _) = false
-never_grows c = not (is_growing c)
 
 -- it neither withdraws nor makes a duty, as no call on values does
 pub record MakesNoDuty (r : Reply) : Type 0 where

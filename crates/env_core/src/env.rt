@@ -2,12 +2,13 @@
 ghost use Rattle.std.specs.Prelude.{◌≡◌, ◌≢◌, ℕ, ◌+◌, ◌-◌, ◌*◌, ◌<◌, ◌≤◌, [], length, option_map, Some, None, is_some, true, false, IfOk, OnOk, OnErr, IfErr, IfSome, IsTrue, ◌↔◌, option_copied};
 ghost use Rattle.napi_types.specs.declared.call.Call.TheVariants as call_of;
 ghost use Rattle.napi_types.specs.declared.entry.Cause.TheVariants as cause;
+ghost use Rattle.napi_types.specs.plain.CallFacts.{AreFactsOf};
 ghost use Rattle.napi_types.specs.plain.CallKinds.{is_calling, is_value_call};
-ghost use Rattle.napi_types.specs.plain.Guards.{is_shared as is_shared_call};
+ghost use Rattle.napi_types.specs.plain.Guards.{is_shared};
 ghost use Rattle.napi_types.specs.plain.Lists.{head, tail};
 ghost use Rattle.napi_types.specs.plain.Numbers.{napi_version};
 ghost use Rattle.napi_types.specs.plain.Phases.{next_phase};
-ghost use Rattle.napi_types.specs.plain.Room.{is_full, need, one_if, most_entries};
+ghost use Rattle.napi_types.specs.plain.Room.{is_full, one_if, most_entries};
 ghost use Rattle.napi_types.specs.parts.Frames.{asks_made, cause_of, duty_of, is_hub_duty, most_asks};
 ghost use Rattle.napi_types.specs.environment.Calls.{with_depth_error};
 ghost use Rattle.napi_types.specs.environment.Changes.{call_change, init_change};
@@ -26,11 +27,11 @@ mod hub;
 use crate::frames::StandingFrame;
 use crate::function_roots::RootRoom;
 use crate::journal::Journal;
-use crate::state::{Called, State, host_entry, is_shared};
+use crate::state::{Called, State, host_entry};
 use addon_trait::Phased;
 use napi_types::{
-    Args, Begun, Call, Cause, Due, Duty, HandleId, HostStep, Limits, Local, LocalList, NoMemory,
-    Out, Phase, Reply, SharedCall, Status, Target, TsfnId, Why,
+    Args, Begun, Call, Cause, Due, Duty, Facts, HandleId, HostStep, Limits, Local, LocalList,
+    NoMemory, Out, Phase, Reply, SharedCall, Status, Target, TsfnId, Why,
 };
 use std::alloc::Global;
 use std::marker::Model;
@@ -132,14 +133,14 @@ impl EnvCore {
         // A call that stops changes nothing. A local one says why it stopped: a refusal comes before a growth that finds no memory. Where it
         // finds no room it stops as `TraceFull`.
         ensures stop { IfStop result (λ status. self.new ≡ self.old) }
-        ensures cause { is_shared_call call.now ≡ false → IfStop result (λ status. StopsBy self.old.env (room_in self.old) call.now status) }
-        ensures full { is_shared_call call.now ≡ false → IsTrue (is_full (room_in self.old) call.now) → result ≡ Stepped.Stop Status.TraceFull }
+        ensures cause { is_shared call.now ≡ false → IfStop result (λ status. StopsBy self.old.env (room_in self.old) call.now status) }
+        ensures full { is_shared call.now ≡ false → IsTrue (is_full (room_in self.old) call.now) → result ≡ Stepped.Stop Status.TraceFull }
 
         // Exactly a shared call is handed to the hub.
-        ensures local { is_shared_call call.now ≡ false → IsLocal result }
-        ensures shared { is_shared_call call.now ≡ true → IsHandedOver self.old call.now result self.new }
+        ensures local { is_shared call.now ≡ false → IsLocal result }
+        ensures shared { is_shared call.now ≡ true → IsHandedOver self.old call.now result self.new }
     {
-        if is_shared(call) {
+        if call.facts().group.is_shared() {
             return self.hand_over(step, call);
         }
         match call {
@@ -154,7 +155,7 @@ impl EnvCore {
     fn step_at_once(&mut self, step: u32, call: &Call) -> Stepped
         requires standing { self.old.env.frames ≢ [] }
         requires idle { self.old.awaited ≡ None }
-        requires local { is_shared_call call.now ≡ false }
+        requires local { is_shared call.now ≡ false }
         requires at_once { is_calling call.now ≡ false }
         requires ask { step ≡ asks_made self.old.env.frames }
         requires within { step < most_asks }
@@ -181,7 +182,7 @@ impl EnvCore {
     pub fn answer(&mut self, step: u32, call: &Call) -> Result<(), Status>
         requires standing { self.old.env.frames ≢ [] }
         requires idle { self.old.awaited ≡ None }
-        requires local { is_shared_call call.now ≡ false }
+        requires local { is_shared call.now ≡ false }
         requires at_once { is_calling call.now ≡ false }
         requires ask { step ≡ asks_made self.old.env.frames }
         requires within { step < most_asks }
@@ -190,10 +191,11 @@ impl EnvCore {
         ensures cause { IfErr result (λ status. StopsBy self.old.env (room_in self.old) call.now status) }
         ensures full { IsTrue (is_full (room_in self.old) call.now) → result ≡ Err Status.TraceFull }
     {
-        if call.is_value_call() {
+        let facts = call.facts();
+        if facts.group.is_of_values() {
             self.answer_on_values(step, call)
         } else {
-            self.answer_other(step, call)
+            self.answer_other(step, call, facts)
         }
     }
 
@@ -208,7 +210,7 @@ impl EnvCore {
     fn answer_on_values(&mut self, step: u32, call: &Call) -> Result<(), Status>
         requires standing { self.old.env.frames ≢ [] }
         requires idle { self.old.awaited ≡ None }
-        requires local { is_shared_call call.now ≡ false }
+        requires local { is_shared call.now ≡ false }
         requires at_once { is_calling call.now ≡ false }
         requires value_call { is_value_call call.now ≡ true }
         requires ask { step ≡ asks_made self.old.env.frames }
@@ -234,12 +236,13 @@ impl EnvCore {
         }
     }
 
-    /// A call that is neither on values nor of a function.
+    /// A call that is neither on values nor of a function. It has the places that its facts tell.
     #[inline(never)]
-    fn answer_other(&mut self, step: u32, call: &Call) -> Result<(), Status>
+    fn answer_other(&mut self, step: u32, call: &Call, facts: Facts) -> Result<(), Status>
         requires standing { self.old.env.frames ≢ [] }
+        requires facts { AreFactsOf facts call.now }
         requires idle { self.old.awaited ≡ None }
-        requires local { is_shared_call call.now ≡ false }
+        requires local { is_shared call.now ≡ false }
         requires at_once { is_calling call.now ≡ false }
         requires other { is_value_call call.now ≡ false }
         requires ask { step ≡ asks_made self.old.env.frames }
@@ -249,12 +252,12 @@ impl EnvCore {
         ensures cause { IfErr result (λ status. StopsBy self.old.env (room_in self.old) call.now status) }
         ensures full { IsTrue (is_full (room_in self.old) call.now) → result ≡ Err Status.TraceFull }
     {
-        let places = places_of(call);
+        let places = facts.places;
         if let Err(status) = self.journal.promise(places) {
             return Err(status);
         }
         let depth = self.state.depth();
-        match &self.state.call(call) {
+        match &self.state.call(call, facts.group) {
             Ok(reply) => {
                 self.journal.push_call(depth, step, call, reply);
                 // A duty that was made keeps the places of its frame, and one that was withdrawn gives them back.
@@ -500,15 +503,6 @@ impl Phased for EnvCore {
     fn moved(&mut self, position: u64) {
         self.journal.note(position);
     }
-}
-
-/// How many places a call needs that is no call of a function: one for its entry, and two for the frame of the duty that it makes.
-fn places_of(call: &Call) -> u32
-    requires local { is_shared_call call.now ≡ false }
-    requires at_once { is_calling call.now ≡ false }
-    ensures { result ≡ need call.now }
-{
-    if call.is_registering() { 3 } else { 1 }
 }
 
 /// The places of a duty's frame, its begin and its end, where there is a duty.

@@ -16,4 +16,3 @@ mod state;
 
 pub use env::{EnvCore, Stepped};
 pub use frames::StandingFrame;
-pub use state::is_shared;

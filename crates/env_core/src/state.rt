@@ -1,9 +1,10 @@
 //! The environment's state without its journal: values, scopes, the frames that stand, and how far the run has come.
 ghost use Rattle.std.specs.Prelude.{◌≡◌, ◌≢◌, ◌+◌, ◌<◌, ◌^◌, [], length, true, false, option_map, Some, None, IfOk, OnErr, IsTrue};
 ghost use Rattle.napi_types.specs.declared.call.Call.TheVariants as call_of;
+ghost use Rattle.napi_types.specs.plain.CallFacts.{group_of};
 ghost use Rattle.napi_types.specs.plain.CallKinds.{is_calling, is_value_call};
 ghost use Rattle.napi_types.specs.plain.Entries.{host_entry as entry_of, host_told as told_of};
-ghost use Rattle.napi_types.specs.plain.Guards.{is_shared as is_shared_call};
+ghost use Rattle.napi_types.specs.plain.Guards.{is_shared};
 ghost use Rattle.napi_types.specs.plain.Lists.{head};
 ghost use Rattle.napi_types.specs.plain.Numbers.{napi_version};
 ghost use Rattle.napi_types.specs.parts.Frames.{caller_of, asks_made, most_asks};
@@ -18,7 +19,7 @@ ghost use Rattle.napi_types.specs.environment.Registering.{finalizer_if};
 ghost use Rattle.env_core.specs.Standing.{machine_frame};
 ghost use Rattle.finalizer_queue.specs.TicketRows.{registration_of};
 ghost use Rattle.env_core.specs.Core.{next_init};
-ghost use Rattle.env_core.specs.State.{HasNumbersFor, Calls, Answers, AnswersInTime, FindsNoMemory, MakesNoDuty, never_grows, opening_call, closing_call};
+ghost use Rattle.env_core.specs.State.{HasNumbersFor, Calls, Answers, AnswersInTime, FindsNoMemory, MakesNoDuty, opening_call, closing_call};
 
 mod attachments;
 mod calling;
@@ -44,10 +45,9 @@ use finalizer_queue::{Book, NewDuty};
 use handle_scope::{ScopeKind, Scopes};
 use napi_reference::Refs;
 use napi_types::{
-    Actor, Call, Cause, Entry, HandleId, HostStep, NAPI_VERSION, NoMemory, Out, Phase, Reply,
-    ScopeId, Status, TextNo, What,
+    Actor, Call, CallGroup, Cause, Entry, HandleId, HostStep, NAPI_VERSION, NoMemory, Out, Phase,
+    Reply, ScopeId, Status, TextNo, What,
 };
-pub use shared::is_shared;
 use std::alloc::Global;
 use std::marker::Model;
 use value_store::Store;
@@ -178,10 +178,12 @@ impl State {
         host_entry(HostStep::Begin, Out::Begin(Cause::Init, addon, 0, None))
     }
 
-    /// A call of the innermost frame, which is neither on values nor of a function: what it replies. Its status is noted and its ask is counted.
-    pub fn call(&mut self, call: &Call) -> Result<Reply, NoMemory>
+    /// A call of the innermost frame, of a group that is neither on values nor of a function: what it replies. Its status is noted and its ask is
+    /// counted.
+    pub fn call(&mut self, call: &Call, group: CallGroup) -> Result<Reply, NoMemory>
         requires standing { self.old.frames ≢ [] }
-        requires local { is_shared_call call.now ≡ false }
+        requires group { group ≡ group_of call.now }
+        requires local { is_shared call.now ≡ false }
         requires at_once { is_calling call.now ≡ false }
         requires other { is_value_call call.now ≡ false }
         requires within { asks_made self.old.frames < most_asks }
@@ -190,7 +192,7 @@ impl State {
         ensures ok { IfOk result (λ reply. Calls self.old call.now (call_entry self.old call.now reply) self.new) }
         ensures stopped { OnErr result (FindsNoMemory self.old call.now (early_refusal self.old call.now) self.new) }
     {
-        let reply = self.answer(call)?;
+        let reply = self.answer(call, group)?;
         self.note(call, reply.status);
         Ok(reply)
     }
@@ -238,9 +240,10 @@ impl State {
     }
 
     /// What the call answers, refused or accepted.
-    fn answer(&mut self, call: &Call) -> Result<Reply, NoMemory>
+    fn answer(&mut self, call: &Call, group: CallGroup) -> Result<Reply, NoMemory>
         requires standing { self.old.frames ≢ [] }
-        requires local { is_shared_call call.now ≡ false }
+        requires group { group ≡ group_of call.now }
+        requires local { is_shared call.now ≡ false }
         requires at_once { is_calling call.now ≡ false }
         requires other { is_value_call call.now ≡ false }
         requires numbers { HasNumbersFor self.old }
@@ -250,7 +253,7 @@ impl State {
     {
         match self.untimely(call) {
             Some(status) => Ok(Reply::plain(status, Out::Nothing)),
-            None => self.answer_in_time(call),
+            None => self.answer_in_time(call, group),
         }
     }
 
@@ -277,10 +280,10 @@ impl State {
     {
         let pending = self.exceptions.pending().is_some();
         let tearing = self.is_tearing();
-        if (pending || tearing) && call.is_guarded() {
+        if (pending || tearing) && call.facts().guarded {
             return Some(Status::PendingException);
         }
-        if tearing && call.is_registering() {
+        if tearing && call.facts().registers {
             return Some(Status::GenericFailure);
         }
         None
@@ -293,11 +296,11 @@ impl State {
         !matches!(self.phase, Phase::Init | Phase::Live)
     }
 
-    /// What a call that comes at a right moment answers, refused or accepted.
-    #[tactic(auto, using(crate::proofs::Unrefused::stopped))]
-    fn answer_in_time(&mut self, call: &Call) -> Result<Reply, NoMemory>
+    /// What a call of this group that comes at a right moment answers, refused or accepted.
+    fn answer_in_time(&mut self, call: &Call, group: CallGroup) -> Result<Reply, NoMemory>
         requires standing { self.old.frames ≢ [] }
-        requires local { is_shared_call call.now ≡ false }
+        requires group { group ≡ group_of call.now }
+        requires local { is_shared call.now ≡ false }
         requires at_once { is_calling call.now ≡ false }
         requires other { is_value_call call.now ≡ false }
         requires numbers { HasNumbersFor self.old }
@@ -305,70 +308,65 @@ impl State {
         ensures ok { IfOk result (λ reply. AnswersInTime self.old call.now reply self.new) }
         ensures stopped { OnErr result (FindsNoMemory self.old call.now (timely_refusal self.old call.now) self.new) }
     {
-        match call {
-            Call::OpenHandleScope => self.open_scope(ScopeKind::Plain),
-            Call::OpenEscapableHandleScope => self.open_scope(ScopeKind::Escapable),
-            Call::CreateReference(handle, count) => self.create_reference(*handle, *count),
-            Call::GetReferenceValue(reference) => self.get_reference_value(*reference),
-            Call::Wrap(object, payload, finalizer, hint, wanted) => {
-                self.wrap(*object, *payload, *finalizer, *hint, *wanted)
-            }
-            Call::AddFinalizer(object, payload, entry, hint, wanted) => {
-                self.add_finalizer(*object, *payload, *entry, *hint, *wanted)
-            }
-            Call::TypeTagObject(object, lower, upper) => {
-                self.type_tag_object(*object, *lower, *upper)
-            }
-            Call::CreateExternal(payload, finalizer, hint) => {
-                self.create_external(*payload, *finalizer, *hint)
-            }
-            Call::SetInstanceData(payload, finalizer, hint) => {
-                self.set_instance_data(*payload, *finalizer, *hint)
-            }
-            Call::AddEnvCleanupHook(entry, argument) => {
-                self.add_env_cleanup_hook(*entry, *argument)
-            }
-            Call::Collect => self.collect(),
-            Call::ThrowError(code, message) => self.throw_error(*code, *message),
-            Call::GetAndClearLastException => self.take_pending(),
-            _ => Ok(self.answer_without_memory(call)),
+        match group {
+            CallGroup::OnScopes => self.answer_on_scopes(call),
+            CallGroup::OnReferences => self.answer_on_references(call),
+            CallGroup::OnWraps => self.answer_on_wraps(call),
+            CallGroup::OnExternals => self.answer_on_externals(call),
+            CallGroup::OnExceptions => self.answer_on_exceptions(call),
+            CallGroup::OnInstances => self.answer_on_instances(call),
+            CallGroup::OnHooks => self.answer_on_hooks(call),
+            CallGroup::OnVersion => Ok(self.answer_on_version(call)),
+            CallGroup::OnCollection => self.answer_on_collection(call),
+            CallGroup::OnExit => Ok(self.answer_on_exit(call)),
+            CallGroup::OnValues
+            | CallGroup::OnProperties
+            | CallGroup::OnFunctions
+            | CallGroup::OnEntering
+            | CallGroup::OnWorks
+            | CallGroup::OnThreads => unreachable!(),
         }
     }
 
-    /// What a call that comes at a right moment answers, where it takes no memory.
-    fn answer_without_memory(&mut self, call: &Call) -> Reply
+    /// What a call on scopes answers.
+    #[tactic(auto, using(crate::proofs::Unrefused::stopped))]
+    fn answer_on_scopes(&mut self, call: &Call) -> Result<Reply, NoMemory>
         requires standing { self.old.frames ≢ [] }
-        requires local { is_shared_call call.now ≡ false }
-        requires at_once { is_calling call.now ≡ false }
-        requires other { is_value_call call.now ≡ false }
-        requires plain { never_grows call.now ≡ true }
+        requires group { group_of call.now ≡ CallGroup.OnScopes }
         requires numbers { HasNumbersFor self.old }
-        requires hooked { IsHooked self.old }
+        ensures ok { IfOk result (λ reply. AnswersInTime self.old call.now reply self.new) }
+        ensures stopped { OnErr result (FindsNoMemory self.old call.now (timely_refusal self.old call.now) self.new) }
+    {
+        match call {
+            Call::OpenHandleScope => self.open_scope(ScopeKind::Plain),
+            Call::OpenEscapableHandleScope => self.open_scope(ScopeKind::Escapable),
+            Call::CloseHandleScope(scope) => Ok(self.close_scope(*scope, ScopeKind::Plain)),
+            Call::CloseEscapableHandleScope(scope) => {
+                Ok(self.close_scope(*scope, ScopeKind::Escapable))
+            }
+            Call::EscapeHandle(scope, handle) => Ok(self.escape(*scope, *handle)),
+            _ => unreachable!(),
+        }
+    }
+
+    /// What the call on the version answers.
+    fn answer_on_version(&self, call: &Call) -> Reply
+        requires { group_of call.now ≡ CallGroup.OnVersion }
+        ensures { AnswersInTime self.now call.now result self.now }
+    {
+        match call {
+            Call::GetVersion => { Reply::plain(Status::Ok, Out::Unsigned(u64::from(NAPI_VERSION))) }
+            _ => unreachable!(),
+        }
+    }
+
+    /// What the call of the exit answers.
+    fn answer_on_exit(&mut self, call: &Call) -> Reply
+        requires { group_of call.now ≡ CallGroup.OnExit }
         ensures { AnswersInTime self.old call.now result self.new }
     {
         match call {
-            Call::CloseHandleScope(scope) => self.close_scope(*scope, ScopeKind::Plain),
-            Call::CloseEscapableHandleScope(scope) => {
-                self.close_scope(*scope, ScopeKind::Escapable)
-            }
-            Call::EscapeHandle(scope, handle) => self.escape(*scope, *handle),
-            Call::DeleteReference(reference) => self.delete_reference(*reference),
-            Call::ReferenceRef(reference) => self.reference_ref(*reference),
-            Call::ReferenceUnref(reference) => self.reference_unref(*reference),
-            Call::Unwrap(object) => self.unwrap(*object),
-            Call::RemoveWrap(object) => self.remove_wrap(*object),
-            Call::CheckObjectTypeTag(object, lower, upper) => {
-                self.check_object_type_tag(*object, *lower, *upper)
-            }
-            Call::GetInstanceData => self.get_instance_data(),
-            Call::RemoveEnvCleanupHook(entry, argument) => {
-                self.remove_env_cleanup_hook(*entry, *argument)
-            }
             Call::Exit => self.exit(),
-            Call::Throw(handle) => self.throw(*handle),
-            Call::IsExceptionPending => self.is_pending(),
-            Call::GetLastErrorInfo => self.last(),
-            Call::GetVersion => { Reply::plain(Status::Ok, Out::Unsigned(u64::from(NAPI_VERSION))) }
             _ => unreachable!(),
         }
     }

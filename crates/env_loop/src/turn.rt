@@ -1,7 +1,7 @@
 //! One turn of the environment: an ask of the innermost frame, or the next event where no frame stands.
 ghost use Rattle.std.specs.Prelude.{◌≡◌, ◌≢◌, ◌<◌, ◌≤◌, ℕ, [], length, map, Some, None, true, false, IfSome, IsTrue};
 ghost use Rattle.napi_types.specs.plain.CallKinds.{is_calling};
-ghost use Rattle.napi_types.specs.plain.Guards.{is_shared as is_shared_call};
+ghost use Rattle.napi_types.specs.plain.Guards.{is_shared};
 ghost use Rattle.napi_types.specs.plain.Lists.{head, tail};
 ghost use Rattle.napi_types.specs.parts.Frames.{asks_made, duty_of, is_hub_duty, most_asks, at_last_ask};
 ghost use Rattle.napi_types.specs.environment.Ends.{end_change};
@@ -15,7 +15,7 @@ ghost use Rattle.env_loop.specs.Turns.{event_turn as turn_at_event, turn_after, 
 
 use crate::run::{EnvRun, FrameEnd};
 use addon_trait::{Addon, ask_at, begin_at, enter_at, note_at};
-use env_core::{EnvCore, StandingFrame, Stepped, is_shared};
+use env_core::{EnvCore, StandingFrame, Stepped};
 use napi_types::{Ask, Begun, Call, Duty, HandleId, MOST_ASKS, Phase, Status, Why};
 use std::mem;
 
@@ -90,10 +90,10 @@ pub(crate) fn why(status: Status) -> Why
 
 /// Whether a call is answered at once: it is neither shared nor of a function.
 fn is_answered_at_once(call: &Call) -> bool
-    ensures local { IsTrue result → is_shared_call call.now ≡ false }
+    ensures local { IsTrue result → is_shared call.now ≡ false }
     ensures at_once { IsTrue result → is_calling call.now ≡ false }
 {
-    !is_shared(call) && !matches!(call, Call::CallFunction(..))
+    call.facts().group.is_answered_at_once()
 }
 
 /// What a frame asks at its next step: what its addon says, or to leave where it makes no asks. No addon has another register, or has seen

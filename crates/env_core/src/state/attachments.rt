@@ -1,17 +1,45 @@
 //! Calls on wraps, type tags and finalizers.
 ghost use Rattle.std.specs.Prelude.{◌≡◌, ◌+◌, ◌<◌, ◌^◌, length, None, IfOk, OnErr};
 ghost use Rattle.napi_types.specs.declared.call.Call.TheVariants as call_of;
+ghost use Rattle.napi_types.specs.plain.CallFacts.{group_of};
 ghost use Rattle.napi_types.specs.environment.Refusals.{timely_refusal};
-ghost use Rattle.env_core.specs.State.{AnswersInTime};
+ghost use Rattle.env_core.specs.State.{AnswersInTime, FindsNoMemory, HasNumbersFor};
 
 use super::State;
 use crate::handles::{Attachable, target};
 use crate::registering::{
     attach_if, refer_if, register_if, reserve_attached, reserve_ticket, wants_alone, withdraw_if,
 };
-use napi_types::{HandleId, NoMemory, Out, Reply, Status};
+use napi_types::{Call, CallGroup, HandleId, NoMemory, Out, Reply, Status};
 
 impl State {
+    /// What a call on wraps, type tags and finalizers answers.
+    #[tactic(auto, using(crate::proofs::Unrefused::stopped))]
+    pub(super) fn answer_on_wraps(&mut self, call: &Call) -> Result<Reply, NoMemory>
+        requires group { group_of call.now ≡ CallGroup.OnWraps }
+        requires numbers { HasNumbersFor self.old }
+        ensures ok { IfOk result (λ reply. AnswersInTime self.old call.now reply self.new) }
+        ensures stopped { OnErr result (FindsNoMemory self.old call.now (timely_refusal self.old call.now) self.new) }
+    {
+        match call {
+            Call::Wrap(object, payload, finalizer, hint, wanted) => {
+                self.wrap(*object, *payload, *finalizer, *hint, *wanted)
+            }
+            Call::Unwrap(object) => Ok(self.unwrap(*object)),
+            Call::RemoveWrap(object) => Ok(self.remove_wrap(*object)),
+            Call::TypeTagObject(object, lower, upper) => {
+                self.type_tag_object(*object, *lower, *upper)
+            }
+            Call::CheckObjectTypeTag(object, lower, upper) => {
+                Ok(self.check_object_type_tag(*object, *lower, *upper))
+            }
+            Call::AddFinalizer(object, payload, entry, hint, wanted) => {
+                self.add_finalizer(*object, *payload, *entry, *hint, *wanted)
+            }
+            _ => unreachable!(),
+        }
+    }
+
     /// Ties a payload to an object, where none is tied, and registers a finalizer where the call names an entry. Only then a weak
     /// reference may be wanted: else it is refused, and the hint is kept for nobody.
     #[inline(never)]

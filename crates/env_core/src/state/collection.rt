@@ -1,15 +1,29 @@
 //! The collection.
 ghost use Rattle.std.specs.Prelude.{◌≡◌, None, IfOk, OnErr};
 ghost use Rattle.napi_types.specs.declared.call.Call.TheVariants as call_of;
+ghost use Rattle.napi_types.specs.plain.CallFacts.{group_of};
 ghost use Rattle.napi_types.specs.environment.Refusals.{timely_refusal};
-ghost use Rattle.env_core.specs.State.{AnswersInTime};
+ghost use Rattle.env_core.specs.State.{AnswersInTime, FindsNoMemory};
 
 use super::State;
 use crate::roots::roots_of;
 use env_values::recall;
-use napi_types::{NoMemory, Out, Reply, Status};
+use napi_types::{Call, CallGroup, NoMemory, Out, Reply, Status};
 
 impl State {
+    /// What the call of a collection answers.
+    #[tactic(auto, using(crate::proofs::Unrefused::stopped))]
+    pub(super) fn answer_on_collection(&mut self, call: &Call) -> Result<Reply, NoMemory>
+        requires group { group_of call.now ≡ CallGroup.OnCollection }
+        ensures ok { IfOk result (λ reply. AnswersInTime self.old call.now reply self.new) }
+        ensures stopped { OnErr result (FindsNoMemory self.old call.now (timely_refusal self.old call.now) self.new) }
+    {
+        match call {
+            Call::Collect => self.collect(),
+            _ => unreachable!(),
+        }
+    }
+
     /// Frees the values that the roots do not reach, and tells how many there were: the references to them are emptied, what is
     /// attached to them goes, and the tickets of their finalizers fall due. All memory is taken before the first change.
     #[inline(never)]

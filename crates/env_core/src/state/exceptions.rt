@@ -1,16 +1,36 @@
 //! Calls on exceptions and on the last status.
 ghost use Rattle.std.specs.Prelude.{◌≡◌, ◌≢◌, ◌+◌, ◌<◌, ◌^◌, [], None, IfOk, OnErr};
 ghost use Rattle.napi_types.specs.declared.call.Call.TheVariants as call_of;
+ghost use Rattle.napi_types.specs.plain.CallFacts.{group_of};
 ghost use Rattle.napi_types.specs.parts.NamedNumbers.{is_known};
 ghost use Rattle.napi_types.specs.parts.Properties.{most_names};
 ghost use Rattle.napi_types.specs.environment.Refusals.{timely_refusal};
-ghost use Rattle.env_core.specs.State.{AnswersInTime};
+ghost use Rattle.env_core.specs.State.{AnswersInTime, FindsNoMemory, HasNumbersFor};
 
 use super::State;
 use env_values::{or_undefined, thrown_value};
-use napi_types::{HandleId, NoMemory, Out, Reply, Status, TextNo};
+use napi_types::{Call, CallGroup, HandleId, NoMemory, Out, Reply, Status, TextNo};
 
 impl State {
+    /// What a call on exceptions and on the last status answers.
+    #[tactic(auto, using(crate::proofs::Unrefused::stopped))]
+    pub(super) fn answer_on_exceptions(&mut self, call: &Call) -> Result<Reply, NoMemory>
+        requires standing { self.old.frames ≢ [] }
+        requires group { group_of call.now ≡ CallGroup.OnExceptions }
+        requires numbers { HasNumbersFor self.old }
+        ensures ok { IfOk result (λ reply. AnswersInTime self.old call.now reply self.new) }
+        ensures stopped { OnErr result (FindsNoMemory self.old call.now (timely_refusal self.old call.now) self.new) }
+    {
+        match call {
+            Call::Throw(handle) => Ok(self.throw(*handle)),
+            Call::ThrowError(code, message) => self.throw_error(*code, *message),
+            Call::IsExceptionPending => Ok(self.is_pending()),
+            Call::GetAndClearLastException => self.take_pending(),
+            Call::GetLastErrorInfo => Ok(self.last()),
+            _ => unreachable!(),
+        }
+    }
+
     /// The value of a handle is the pending exception from now on.
     #[inline(never)]
     pub(super) fn throw(&mut self, handle: HandleId) -> Reply

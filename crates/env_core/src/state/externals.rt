@@ -1,16 +1,34 @@
 //! The call that creates an external.
 ghost use Rattle.std.specs.Prelude.{◌≡◌, ◌≢◌, ◌+◌, ◌<◌, ◌^◌, [], length, None, IfOk, OnErr};
 ghost use Rattle.napi_types.specs.declared.call.Call.TheVariants as call_of;
+ghost use Rattle.napi_types.specs.plain.CallFacts.{group_of};
 ghost use Rattle.napi_types.specs.parts.Properties.{most_names};
 ghost use Rattle.napi_types.specs.environment.Refusals.{timely_refusal};
-ghost use Rattle.env_core.specs.State.{AnswersInTime};
+ghost use Rattle.env_core.specs.State.{AnswersInTime, FindsNoMemory, HasNumbersFor};
 
 use super::State;
 use crate::registering::{attach_if, register_if, reserve_attached};
 use env_values::make_held;
-use napi_types::{Body, NoMemory, Reply, Status};
+use napi_types::{Body, Call, CallGroup, NoMemory, Reply, Status};
 
 impl State {
+    /// What the call that creates an external answers.
+    #[tactic(auto, using(crate::proofs::Unrefused::stopped))]
+    pub(super) fn answer_on_externals(&mut self, call: &Call) -> Result<Reply, NoMemory>
+        requires standing { self.old.frames ≢ [] }
+        requires group { group_of call.now ≡ CallGroup.OnExternals }
+        requires numbers { HasNumbersFor self.old }
+        ensures ok { IfOk result (λ reply. AnswersInTime self.old call.now reply self.new) }
+        ensures stopped { OnErr result (FindsNoMemory self.old call.now (timely_refusal self.old call.now) self.new) }
+    {
+        match call {
+            Call::CreateExternal(payload, finalizer, hint) => {
+                self.create_external(*payload, *finalizer, *hint)
+            }
+            _ => unreachable!(),
+        }
+    }
+
     /// A new external, which holds this payload, and its handle. Where the call names an entry a finalizer is registered, else the
     /// hint is kept for nobody.
     #[inline(never)]

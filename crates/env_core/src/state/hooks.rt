@@ -1,16 +1,37 @@
 //! Calls on cleanup hooks.
 ghost use Rattle.std.specs.Prelude.{◌≡◌, ◌<◌, ◌^◌, length, None, IfOk, OnErr};
 ghost use Rattle.napi_types.specs.declared.call.Call.TheVariants as call_of;
+ghost use Rattle.napi_types.specs.plain.CallFacts.{group_of};
 ghost use Rattle.napi_types.specs.environment.Hooked.{IsHooked};
 ghost use Rattle.napi_types.specs.environment.Refusals.{timely_refusal};
-ghost use Rattle.env_core.specs.State.{AnswersInTime};
+ghost use Rattle.env_core.specs.State.{AnswersInTime, FindsNoMemory, HasNumbersFor};
 
 use super::State;
 use crate::registering::withdraw_if;
 use finalizer_queue::NewDuty;
-use napi_types::{Cause, Duty, NoMemory, Out, Reply, Status};
+use napi_types::{Call, CallGroup, Cause, Duty, NoMemory, Out, Reply, Status};
 
 impl State {
+    /// What a call on cleanup hooks answers.
+    #[tactic(auto, using(crate::proofs::Unrefused::stopped))]
+    pub(super) fn answer_on_hooks(&mut self, call: &Call) -> Result<Reply, NoMemory>
+        requires group { group_of call.now ≡ CallGroup.OnHooks }
+        requires numbers { HasNumbersFor self.old }
+        requires hooked { IsHooked self.old }
+        ensures ok { IfOk result (λ reply. AnswersInTime self.old call.now reply self.new) }
+        ensures stopped { OnErr result (FindsNoMemory self.old call.now (timely_refusal self.old call.now) self.new) }
+    {
+        match call {
+            Call::AddEnvCleanupHook(entry, argument) => {
+                self.add_env_cleanup_hook(*entry, *argument)
+            }
+            Call::RemoveEnvCleanupHook(entry, argument) => {
+                Ok(self.remove_env_cleanup_hook(*entry, *argument))
+            }
+            _ => unreachable!(),
+        }
+    }
+
     /// Adds a hook of the addon that calls, and registers it. It is refused where the addon has added it, and it has neither begun
     /// nor been removed since.
     #[inline(never)]

@@ -1,14 +1,32 @@
 //! Calls on instance data.
 ghost use Rattle.std.specs.Prelude.{◌≡◌, ◌<◌, ◌^◌, length, None, IfOk, OnErr, IsSome};
 ghost use Rattle.napi_types.specs.declared.call.Call.TheVariants as call_of;
+ghost use Rattle.napi_types.specs.plain.CallFacts.{group_of};
 ghost use Rattle.napi_types.specs.environment.Refusals.{timely_refusal};
-ghost use Rattle.env_core.specs.State.{AnswersInTime};
+ghost use Rattle.env_core.specs.State.{AnswersInTime, FindsNoMemory, HasNumbersFor};
 
 use super::State;
 use crate::registering::{register_if, reserve_ticket, withdraw_if};
-use napi_types::{NoMemory, Out, Reply, Status};
+use napi_types::{Call, CallGroup, NoMemory, Out, Reply, Status};
 
 impl State {
+    /// What a call on instance data answers.
+    #[tactic(auto, using(crate::proofs::Unrefused::stopped))]
+    pub(super) fn answer_on_instances(&mut self, call: &Call) -> Result<Reply, NoMemory>
+        requires group { group_of call.now ≡ CallGroup.OnInstances }
+        requires numbers { HasNumbersFor self.old }
+        ensures ok { IfOk result (λ reply. AnswersInTime self.old call.now reply self.new) }
+        ensures stopped { OnErr result (FindsNoMemory self.old call.now (timely_refusal self.old call.now) self.new) }
+    {
+        match call {
+            Call::SetInstanceData(payload, finalizer, hint) => {
+                self.set_instance_data(*payload, *finalizer, *hint)
+            }
+            Call::GetInstanceData => Ok(self.get_instance_data()),
+            _ => unreachable!(),
+        }
+    }
+
     /// Gives the addon that calls other instance data. The finalizer of what was set before is withdrawn, where it is still
     /// registered, and one is registered where the call names an entry; else the hint is kept for nobody, and no memory is taken.
     #[inline(never)]

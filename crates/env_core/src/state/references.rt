@@ -1,18 +1,38 @@
 //! Calls on references.
 ghost use Rattle.std.specs.Prelude.{◌≡◌, ◌≢◌, ◌+◌, ◌<◌, ◌^◌, [], length, None, IfOk, IfErr, OnErr};
 ghost use Rattle.napi_types.specs.declared.call.Call.TheVariants as call_of;
+ghost use Rattle.napi_types.specs.plain.CallFacts.{group_of};
 ghost use Rattle.napi_types.specs.plain.Lists.{unless};
 ghost use Rattle.napi_types.specs.plain.Replies.{plain};
 ghost use Rattle.napi_types.specs.parts.Bodies.{is_referable as is_referable_body};
 ghost use Rattle.napi_types.specs.parts.Heap.{handle_body};
 ghost use Rattle.napi_types.specs.environment.Refusals.{timely_refusal};
-ghost use Rattle.env_core.specs.State.{AnswersInTime};
+ghost use Rattle.env_core.specs.State.{AnswersInTime, FindsNoMemory, HasNumbersFor};
 
 use super::State;
 use crate::handles::{body_of, value_of};
-use napi_types::{Body, HandleId, NoMemory, Out, RefId, Reply, Status};
+use napi_types::{Body, Call, CallGroup, HandleId, NoMemory, Out, RefId, Reply, Status};
 
 impl State {
+    /// What a call on references answers.
+    #[tactic(auto, using(crate::proofs::Unrefused::stopped))]
+    pub(super) fn answer_on_references(&mut self, call: &Call) -> Result<Reply, NoMemory>
+        requires standing { self.old.frames ≢ [] }
+        requires group { group_of call.now ≡ CallGroup.OnReferences }
+        requires numbers { HasNumbersFor self.old }
+        ensures ok { IfOk result (λ reply. AnswersInTime self.old call.now reply self.new) }
+        ensures stopped { OnErr result (FindsNoMemory self.old call.now (timely_refusal self.old call.now) self.new) }
+    {
+        match call {
+            Call::CreateReference(handle, count) => self.create_reference(*handle, *count),
+            Call::DeleteReference(reference) => Ok(self.delete_reference(*reference)),
+            Call::ReferenceRef(reference) => Ok(self.reference_ref(*reference)),
+            Call::ReferenceUnref(reference) => Ok(self.reference_unref(*reference)),
+            Call::GetReferenceValue(reference) => self.get_reference_value(*reference),
+            _ => unreachable!(),
+        }
+    }
+
     /// A new reference to the value of a handle.
     #[inline(never)]
     pub(super) fn create_reference(

@@ -2,7 +2,7 @@
 ghost use Rattle.std.specs.Prelude.{◌≡◌, ◌≢◌, ℕ, ◌<◌, [], true, false, Option, Some, None, OnOk, OnErr};
 ghost use Rattle.napi_types.specs.declared.call.Call.TheVariants as call_of;
 ghost use Rattle.napi_types.specs.declared.entry.Cause.TheVariants as cause;
-ghost use Rattle.napi_types.specs.plain.Guards.{is_shared as is_shared_call};
+ghost use Rattle.napi_types.specs.plain.Guards.{is_shared};
 ghost use Rattle.napi_types.specs.parts.Bodies.{function_addon, function_entry, is_function as is_function_body};
 ghost use Rattle.napi_types.specs.parts.Frames.{asks_made, duty_of, is_hub_duty, most_asks};
 ghost use Rattle.napi_types.specs.parts.Heap.{handle_body};
@@ -20,26 +20,6 @@ use napi_types::{
     Body, Call, DueInfo, HandleId, NoMemory, Out, Reply, SharedCall, Status, Target, Why,
 };
 
-/// Whether the hub answers the call, whose entry stands in the history.
-pub fn is_shared(call: &Call) -> bool
-    ensures { result ≡ is_shared_call call.now }
-{
-    matches!(
-        call,
-        Call::CreateAsyncWork(..)
-            | Call::DeleteAsyncWork(_)
-            | Call::CancelAsyncWork(_)
-            | Call::QueueAsyncWork(_)
-            | Call::CreateThreadsafeFunction(..)
-            | Call::CallThreadsafeFunction(..)
-            | Call::AcquireThreadsafeFunction(_)
-            | Call::ReleaseThreadsafeFunction(..)
-            | Call::RefThreadsafeFunction(_)
-            | Call::UnrefThreadsafeFunction(_)
-            | Call::GetThreadsafeFunctionContext(_)
-    )
-}
-
 /// Whether a call that was handed over will want the root of a value: it makes a thread-safe function of a function, and is not
 /// refused.
 fn wants_root(shared: &SharedCall) -> bool
@@ -52,7 +32,7 @@ impl State {
     /// A shared call as the hub is handed it: where it stands in its frame, the addon that calls, where the items of a new thread-safe
     /// function are delivered, and why the environment refuses the call, if it does.
     pub fn shared_call(&self, step: u32, call: &Call) -> SharedCall
-        requires shared { is_shared_call call.now ≡ true }
+        requires shared { is_shared call.now ≡ true }
         requires ask { step ≡ asks_made self.now.frames }
         ensures { result ≡ shared_call_of self.now call.now }
     {
@@ -73,7 +53,7 @@ impl State {
 
     /// Why the environment refuses a shared call, if it does, before the hub is asked.
     fn own_refusal(&self, call: &Call) -> Option<Status>
-        requires { is_shared_call call.now ≡ true }
+        requires { is_shared call.now ≡ true }
         ensures { result ≡ refusal self.now call.now }
     {
         if let Some(status) = self.untimely(call) {

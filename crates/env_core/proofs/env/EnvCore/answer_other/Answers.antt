@@ -22,20 +22,20 @@ push_call-requires c =
     let x : Entry = call_entry s.state c.args.call.now c.in-Ok.reply in
     let calls : Calls s.state c.args.call.now x c.call.new.self = rw c.in-Ok.is at c.call.ensures.ok in
     let k : KeepsPlaces s.journal.promised c.args.call.now x.reply = places-kept s.state c.call.new.self s.journal c.args.call.now x.reply c.self.invariant.0 (calls-keep s.state c.call.new.self c.args.call.now x calls) in
-    omega (arith, k.made, c.places_of-places.ensures, ap (λ (p : Pages). p.promised) c.in_default.ensures.ok)
+    omega (arith, k.made, c.requires.facts.places, ap (λ (p : Pages). p.promised) c.in_default.ensures.ok)
 
 pub overflow_sub-places : goal.overflow_sub-places
-overflow_sub-places c = let k = kept c in omega (arith, c.places_of-places.ensures, k.made)
+overflow_sub-places c = let k = kept c in omega (arith, c.requires.facts.places, k.made)
 
 pub overflow_sub-places-in-Ok : goal.overflow_sub-places-in-Ok
-overflow_sub-places-in-Ok c = let k = kept c in omega (arith, c.places_of-places.ensures, c.frame_places-kept.ensures, k.made)
+overflow_sub-places-in-Ok c = let k = kept c in omega (arith, c.requires.facts.places, c.frame_places-kept.ensures, k.made)
 
 pub give_back-requires : goal.give_back-requires
 give_back-requires c =
     let k = kept c in
     omega (
       arith,
-      c.places_of-places.ensures,
+      c.requires.facts.places,
       c.frame_places-kept.ensures,
       c.frame_places-freed.ensures,
       k.made,
@@ -49,12 +49,12 @@ invariant_of-self-in-Ok c =
     let s = c.self.inside in
     let x : Entry = call_entry s.state c.args.call.now c.in-Ok.reply in
     let calls : Calls s.state c.args.call.now x c.call.new.self = rw c.in-Ok.is at c.call.ensures.ok in
-    let left : ℕ = c.places_of-places.result - 1 - c.frame_places-kept.result + c.frame_places-freed.result in
+    let left : ℕ = c.args.facts.places - 1 - c.frame_places-kept.result + c.frame_places-freed.result in
     let k : KeepsPlaces s.journal.promised c.args.call.now x.reply = places-kept s.state c.call.new.self s.journal c.args.call.now x.reply c.self.invariant.0 (calls-keep s.state c.call.new.self c.args.call.now x calls) in (
-      core-call_change s.state c.call.new.self s.journal c.give_back.new.self c.args.call.now x (s.journal.promised + c.places_of-places.result - 1 - left) c.self.invariant.0
+      core-call_change s.state c.call.new.self s.journal c.give_back.new.self c.args.call.now x (s.journal.promised + c.args.facts.places - 1 - left) c.self.invariant.0
           (calls-keep s.state c.call.new.self c.args.call.now x calls) (calls-hooked s.state c.call.new.self c.args.call.now x calls c.self.invariant.0.hooked)
-          (omega (arith, c.places_of-places.ensures, c.in_default.ensures.room))
-          (omega (arith, c.places_of-places.ensures, c.frame_places-kept.ensures, c.frame_places-freed.ensures, k.made, k.dropped))
+          (omega (arith, c.requires.facts.places, c.in_default.ensures.room))
+          (omega (arith, c.requires.facts.places, c.frame_places-kept.ensures, c.frame_places-freed.ensures, k.made, k.dropped))
           (c.give_back.ensures ∙ ap (λ (p : Pages). record p { promised = p.promised - left }) c.push_call.ensures
           ∙ written-call s.state c.depth-depth.result c.args.step c.args.call.now c.in-Ok.reply (c.promise.new.self.promised - 1 - left) c.promise.new.self c.depth-depth.ensures (rw (← c.self.view_is) at c.requires.ask)
           ∙ ap (λ (p : Pages). written x (p.promised - 1 - left) p) c.in_default.ensures.ok),
@@ -66,12 +66,12 @@ returns-in-Ok-clause-reply c =
     let s = c.self.inside in
     let x : Entry = call_entry s.state c.args.call.now c.in-Ok.reply in
     let calls : Calls s.state c.args.call.now x c.call.new.self = rw c.in-Ok.is at c.call.ensures.ok in
-    let left : ℕ = c.places_of-places.result - 1 - c.frame_places-kept.result + c.frame_places-freed.result in
+    let left : ℕ = c.args.facts.places - 1 - c.frame_places-kept.result + c.frame_places-freed.result in
     rw (← c.self.view_is)
-    (replied-last s.state c.call.new.self s.journal c.give_back.new.self s.awaited c.args.call.now x (s.journal.promised + c.places_of-places.result - 1 - left)
+    (replied-last s.state c.call.new.self s.journal c.give_back.new.self s.awaited c.args.call.now x (s.journal.promised + c.args.facts.places - 1 - left)
     (c.give_back.ensures ∙ ap (λ (p : Pages). record p { promised = p.promised - left }) c.push_call.ensures
     ∙ written-call s.state c.depth-depth.result c.args.step c.args.call.now c.in-Ok.reply (c.promise.new.self.promised - 1 - left) c.promise.new.self c.depth-depth.ensures (rw (← c.self.view_is) at c.requires.ask)
     ∙ ap (λ (p : Pages). written x (p.promised - 1 - left) p) c.in_default.ensures.ok)
     (other-at-once s.state c.args.call.now c.requires.at_once)
-    (fits-in s.state s.journal s.awaited c.args.call.now c.places_of-places.result c.self.invariant.0 (sym c.places_of-places.ensures) c.in_default.ensures.room)
+    (fits-in s.state s.journal s.awaited c.args.call.now c.args.facts.places c.self.invariant.0 (sym c.requires.facts.places) c.in_default.ensures.room)
     calls)
