@@ -260,28 +260,28 @@ go-moves n run before after new position at here adds noted made =
     }
 
 -- a function begins to close, or finishes
-pub closed-moves : (n : Numbers) (run : Run) (before after : HubSeen) (new : Core) (k position : ℕ) → AtHub n run before
+pub closed-moves : (n : Numbers) (run : Run) (before after : HubSeen) (new : Core) (k : ℕ) → AtHub n run before
     → hub_event run.core.env before.hub ≡ Some (Moves (Closes k)) → hub_move before.hub ≡ Some (Closes k)
     → AddsEntry before (host_entry host.CloseTsfn (out.Function (record { 0 = k }))) after
-    → position ≡ length after.history → new ≡ at_position position run.core → MovesPlainly run.core before new after
-closed-moves n run before after new k position at next move adds noted made = record {
+    → new ≡ at_position (length after.history) run.core → MovesPlainly run.core before new after
+closed-moves n run before after new k at next move adds made = record {
   event = Moves (Closes k);
   entry = host_entry host.CloseTsfn (out.Function (record { 0 = k }));
   env = run.core.env;
   plain = close-event run.core before.hub k next move at.fits.stage at.fits.owned;
   adds = adds;
-  made = made ∙ ap (λ i. at_position i run.core) noted;
+  made = made;
 }
 
-pub finished-moves : (n : Numbers) (run : Run) (before after : HubSeen) (new : Core) (k position : ℕ) → AtHub n run before
+pub finished-moves : (n : Numbers) (run : Run) (before after : HubSeen) (new : Core) (k : ℕ) → AtHub n run before
     → hub_event run.core.env before.hub ≡ Some (Moves (Finishes k)) → hub_move before.hub ≡ Some (Finishes k)
     → AddsEntry before (host_entry host.FinishTsfn (out.Function (record { 0 = k }))) after
-    → position ≡ length after.history → new ≡ after_finish k position run.core → MovesPlainly run.core before new after
-finished-moves n run before after new k position at next move adds noted made = record {
+    → new ≡ after_finish k (length after.history) run.core → MovesPlainly run.core before new after
+finished-moves n run before after new k at next move adds made = record {
   event = Moves (Finishes k);
   entry = host_entry host.FinishTsfn (out.Function (record { 0 = k }));
   env = without_root k run.core.env;
   plain = finish-event run.core before.hub k next move at.fits.stage at.fits.owned;
   adds = adds;
-  made = made ∙ ap (λ i. after_finish k i run.core) noted;
+  made = made;
 }

@@ -125,9 +125,9 @@ module _ (J : Type 0) (n : Numbers) (run : Run) (before after : HubSeen) (new : 
     made = told.finals refl;
   }
   torn-by v next moved told _ (moves_at_end (Closes k) move) far here =
-      closed-moves n run before after new k (length after.history) t.at next move told.event refl (told.closed k refl)
+      closed-moves n run before after new k t.at next move told.event (told.closed k refl)
   torn-by v next moved told _ (moves_at_end (Finishes k) move) far here =
-      finished-moves n run before after new k (length after.history) t.at next move told.event refl (told.finished k refl)
+      finished-moves n run before after new k t.at next move told.event (told.finished k refl)
   torn-by v next moved told _ (moves_at_end (Delivers d) move) far here = absurd moved
   torn-by v next moved told _ goes far (inl here) = cc
   torn-by v next moved told _ goes far (inr here) = cc

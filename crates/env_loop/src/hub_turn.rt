@@ -15,10 +15,10 @@ ghost use Rattle.env_loop.specs.Turns.{needs_hub};
 
 use crate::run::{EnvRun, FrameEnd, HubTurn};
 use crate::turn::{NextEvent, cut_of, keep, next_event, why};
-use addon_trait::{Addon, Phased, begin_at, note_at};
+use addon_trait::{Addon, begin_at, note_at};
 use async_work::Job;
 use env_core::EnvCore;
-use env_teardown::{TearStep, teardown_step};
+use env_teardown::{TearStep, poll_into, teardown_step};
 use napi_types::{Due, Phase, SharedCall};
 use shared_hub::{HubState, Naming, Polled};
 
@@ -132,19 +132,12 @@ impl EnvRun {
     {
         let exit = is_exit(&self.core);
         if !exit {
-            match hub.poll() {
+            match poll_into(&mut self.core, hub) {
                 Polled::Begin(due, _) => {
                     self.deliver(hub, addons, due);
                     return HubTurn::Made;
                 }
-                Polled::Closed(_) => {
-                    self.core.moved(position(hub));
-                    return HubTurn::Made;
-                }
-                Polled::Finished(function) => {
-                    self.core.function_finished(function, position(hub));
-                    return HubTurn::Made;
-                }
+                Polled::Closed(_) | Polled::Finished(_) => return HubTurn::Made,
                 Polled::Nothing => {}
             }
         }

@@ -1,10 +1,13 @@
-//! One step of the teardown.
-ghost use Rattle.std.specs.Prelude.{◌≡◌, ◌≢◌, ◌↔◌, ℕ, length, true, false, Some, None, IfSome, option_map};
+//! One move of the hub, and one step of the teardown.
+ghost use Rattle.std.specs.Prelude.{◌≡◌, ◌≢◌, ◌↔◌, ℕ, length, true, false, Some, None, IfSome, IsTrue, option_map};
+ghost use Rattle.napi_types.specs.declared.duties.DueInfo.{DueInfo};
 ghost use Rattle.napi_types.specs.hub.Hub.{IsStageOf};
-ghost use Rattle.napi_types.specs.hub.HubMoves.{Closes, Finishes};
+ghost use Rattle.napi_types.specs.hub.HubEvents.{may_move};
+ghost use Rattle.napi_types.specs.hub.HubMoves.{Delivers, Closes, Finishes, hub_move};
 ghost use Rattle.napi_types.specs.runs.Choice.{hub_choice};
 ghost use Rattle.napi_types.specs.runs.Loop.{Moves, Drains, FinalsCome};
-ghost use Rattle.shared_hub.specs.HubTries.{unspent_job};
+ghost use Rattle.shared_hub.specs.HubStates.{KeepsStage};
+ghost use Rattle.shared_hub.specs.HubTries.{polled_move, AddsMove, IfBegun, unspent_job};
 ghost use Rattle.env_teardown.specs.TeardownSteps.{is_in_teardown, is_local_turn, tear_event, phase_after, AddsEvent, IsStepOf, IfBegins};
 
 use addon_trait::Phased;
@@ -23,6 +26,40 @@ pub enum TearStep<J: Job> {
     Nothing,
     /// The environment's turn is next: the frame of a ticket, or `gone`.
     LocalTurn,
+}
+
+/// Makes the hub's next move, and takes it into the core: where a function closes or finishes the core takes that in, at the position just after
+/// the move's entry. The result is that of [`HubState::poll`].
+///
+/// In logarithmic time over all moves. It takes no memory.
+pub fn poll_into<P: Phased, J: Job, N: Naming>(core: &mut P, hub: &mut HubState<J, N>) -> Polled<J>
+    requires moving { IsTrue (may_move hub.old.hub) }
+
+    // The hub makes its next move, which adds its entry to the history. Where it has none it is as before. It stays at its stage.
+    ensures taken { polled_move result ≡ hub_move hub.old.hub }
+    ensures event { AddsMove hub.old result hub.new }
+    ensures keeps { KeepsStage hub.old.hub hub.new.hub }
+    ensures unspent { IfBegun result (λ due job. option_map J.spec job ≡ unspent_job hub.old.hub.pool due) }
+
+    // The core takes it in, at the history's length. Where a frame begins, or there is no move, it is as before.
+    ensures closed { (n : ℕ) → hub_move hub.old.hub ≡ Some (Closes n) → P.moves core.old (length hub.new.history) core.new }
+    ensures finished { (n : ℕ) → hub_move hub.old.hub ≡ Some (Finishes n)
+        → P.finishes core.old (record { 0 = n }) (length hub.new.history) core.new }
+    ensures begun { (due : DueInfo) → hub_move hub.old.hub ≡ Some (Delivers due) → core.new ≡ core.old }
+    ensures nothing { hub_move hub.old.hub ≡ None → core.new ≡ core.old }
+
+    // No move changes the core's phase, whether a ticket is next, or whether a frame of the environment's own stands.
+    ensures phase { P.phase core.new ≡ P.phase core.old }
+    ensures local { P.has_local core.new ≡ P.has_local core.old }
+    ensures stands { P.stands core.new ≡ P.stands core.old }
+{
+    let polled = hub.poll();
+    match &polled {
+        Polled::Closed(_) => core.moved(position(hub)),
+        Polled::Finished(function) => core.function_finished(*function, position(hub)),
+        Polled::Begin(..) | Polled::Nothing => {}
+    }
+    polled
 }
 
 /// Makes the hub's next event after the loop, where one is next: `drain` once no hook is left, then the moves that are left to the hub,
@@ -76,16 +113,9 @@ pub fn teardown_step<P: Phased, J: Job, N: Naming>(
             core.advance(Phase::Drain, position(hub));
             TearStep::Moved
         }
-        Phase::Drain => match hub.poll() {
+        Phase::Drain => match poll_into(core, hub) {
             Polled::Begin(due, job) => TearStep::Begin(due, job),
-            Polled::Closed(_) => {
-                core.moved(position(hub));
-                TearStep::Moved
-            }
-            Polled::Finished(function) => {
-                core.function_finished(function, position(hub));
-                TearStep::Moved
-            }
+            Polled::Closed(_) | Polled::Finished(_) => TearStep::Moved,
             Polled::Nothing => {
                 if !hub.finals() {
                     return TearStep::Nothing;
