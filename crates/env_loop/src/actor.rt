@@ -11,7 +11,7 @@ mod worker;
 
 use async_work::Job;
 pub use fresh::{FreshActor, FreshThread};
-use napi_types::{OpList, TsfnId};
+use napi_types::OpList;
 use shared_hub::{HubState, Naming};
 pub use thread::ThreadRun;
 pub use worker::WorkerRun;
@@ -30,9 +30,7 @@ pub enum ActorTurn {
 /// What an actor does next, as far as its script and its hands say.
 #[derive(Clone, Copy, Debug, PartialEq, Eq)]
 pub enum NextStep {
-    /// A thread calls this function, and may wait for room in its queue.
-    Calls(TsfnId),
-    /// A thread makes another operation.
+    /// A thread makes an operation of its script.
     Operation,
     /// A thread ends, or has ended.
     Ends,

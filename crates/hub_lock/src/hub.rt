@@ -94,6 +94,9 @@ impl<J: Job, N: Naming> Hub<J, N> {
     }
 
     /// Gives the turn back, and the state: see [`Turn::give`]. Then those are rung that the turn gave a reason to wake up.
+    ///
+    /// Where the hub's last answer said that its caller waits, the pass is noted asleep. Who will not sleep takes that note before: see
+    /// [`HubState::take_wait`].
     pub fn give(&self, pass: &mut Pass, mut held: Held<Locked<HubState<J, N>>>)
         requires lock { (holder held).lock ≡ self.now.lock }
         requires number { (holder held).number ≡ pass.old.number }
@@ -103,7 +106,7 @@ impl<J: Job, N: Naming> Hub<J, N> {
         ensures pass { pass.new ≡ given_back held (rows_of N.numbers.threads held.value.state.value.history) }
         ensures own { pass.new.own ≡ own_rows pass.new.number (rows_of N.numbers.threads held.value.state.value.history) }
     {
-        let rings = held.value.state.take_rings();
+        let rings = held.value.end_turn(pass.number());
         self.turn.give(pass, held);
         ring(&self.bells, rings);
     }
@@ -117,7 +120,7 @@ impl<J: Job, N: Naming> Hub<J, N> {
         self.turn.wait_change(rt, pass);
     }
 
-    /// Sleeps until the bell of this number rings. Who calls it noted, under its last turn, that it will sleep.
+    /// Sleeps until the bell of this number rings. Who calls it was told in its last turn that it waits, or noted that it will sleep.
     ///
     /// It may sleep for ever, where nobody gives it a reason to wake up.
     pub fn sleep<R: Wait>(&self, rt: &R, number: u32) {

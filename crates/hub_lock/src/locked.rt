@@ -15,7 +15,7 @@ ghost use Rattle.hub_lock.specs.LockedEnds.{AfterEnd};
 
 use async_work::{Job, Picked, Ran};
 use napi_types::{Actor, Call, Why};
-use shared_hub::{HubState, Naming, ThreadTried, WaitsFor};
+use shared_hub::{HubState, Naming, ThreadTried};
 use turn_lock::Told;
 
 /// The state, as it lies under the lock, which moves its box alone.
@@ -40,7 +40,18 @@ impl<J: Job, N: Naming> Locked<HubState<J, N>> {
         self.state.knows();
     }
 
-    /// A call of the thread that has the pass of this number. Where it waits, for `go` or for room, the thread will sleep.
+    /// The turn of the pass of this number ends. Where the hub's last answer said that it waits it is noted asleep. Which passes are to be rung, a bit for
+    /// each.
+    pub(crate) fn end_turn(&mut self, number: u32) -> u64
+        ensures { self.new.state.value ≡ self.old.state.value }
+    {
+        if let Some(why) = self.state.take_wait() {
+            self.state.note_sleep(number, why);
+        }
+        self.state.take_rings()
+    }
+
+    /// A call of the thread that has the pass of this number. It waits for `go`, or for room.
     pub(crate) fn call(&mut self, number: u32, step: u32, call: &Call) -> ThreadTried
         requires thread { 0 < number }
         requires left { has_number (number - 1) (threads_left self.old.state.value.hub) ≡ true }
@@ -49,46 +60,26 @@ impl<J: Job, N: Naming> Locked<HubState<J, N>> {
         ensures known { IsLedHub N.numbers self.new.state.value }
     {
         if !self.state.is_live() {
-            self.state.note_sleep(number, WaitsFor::Go);
+            self.state.wait_for_go();
             self.state.knows();
             return ThreadTried::Wait;
         }
         let tried = self.state.thread_call(number - 1, step, call);
-        self.note_wait(number, call, &tried);
         self.state.knows();
         tried
     }
 
-    /// The thread will sleep, where its call waits.
-    fn note_wait(&mut self, number: u32, call: &Call, tried: &ThreadTried)
-        ensures { self.new.state.value ≡ self.old.state.value }
-    {
-        if let (ThreadTried::Wait, Call::CallThreadsafeFunction(id, _, _)) = (tried, call) {
-            self.state.note_sleep(number, WaitsFor::Room(*id));
-        }
-    }
-
-    /// A start of the worker that has the pass of this number. Where there is nothing to start it will sleep.
+    /// A start of a worker. It waits where there is nothing to start.
     #[tactic(auto, using(crate::proofs::LockedWorkers::start_after))]
-    pub(crate) fn start(&mut self, number: u32, worker: u32) -> Picked<J>
+    pub(crate) fn start(&mut self, worker: u32) -> Picked<J>
         requires there { IsTrue (is_worker_there self.old.state.value.hub worker) }
         requires free { executed_by self.old.state.value.hub.pool worker ≡ None }
         ensures after { AfterStart worker self.old.state.value result self.new.state.value }
         ensures known { IsLedHub N.numbers self.new.state.value }
     {
         let picked = self.state.start(worker);
-        self.note_idle(number, &picked);
         self.state.knows();
         picked
-    }
-
-    /// The worker will sleep, where there was nothing to start.
-    fn note_idle(&mut self, number: u32, picked: &Picked<J>)
-        ensures { self.new.state.value ≡ self.old.state.value }
-    {
-        if let Picked::Nothing = picked {
-            self.state.note_sleep(number, WaitsFor::Work);
-        }
     }
 
     /// The finish of a work that a worker executed.
@@ -101,14 +92,14 @@ impl<J: Job, N: Naming> Locked<HubState<J, N>> {
         self.state.knows();
     }
 
-    /// The end of the actor that has the pass of this number, where it may come. A thread before `go` will sleep.
-    pub(crate) fn end(&mut self, number: u32, actor: Actor, cut: Option<Why>) -> bool
+    /// The end of a thread or a worker, where it may come. A thread waits for `go`.
+    pub(crate) fn end(&mut self, actor: Actor, cut: Option<Why>) -> bool
         requires { is_gone_on self.old.state.value.hub.stage ≡ true → MayEnd self.old.state.value.hub actor cut }
         ensures after { AfterEnd actor cut self.old.state.value result self.new.state.value }
         ensures known { IsLedHub N.numbers self.new.state.value }
     {
         if !self.state.is_live() {
-            self.state.note_sleep(number, WaitsFor::Go);
+            self.state.wait_for_go();
             self.state.knows();
             return false;
         }

@@ -103,15 +103,13 @@ gone-then old new owes is = (λ i. (owes i).core.env.phase) ∙ by (owes_hub new
 
 -- A TURN AT THE HUB
 -- the hub of the turn is the one under the lock
-pub grew-there : (who : Actor) (s0 t0 t1 s1 : HubSeen) (count : ℕ) → t0 ≡ s0 → s1 ≡ t1 → AddsEntriesOf who count t0 t1 → GrewByEntries who s0 s1
-grew-there who s0 t0 t1 s1 count first last grew =
-    (count, subst (λ s. AddsEntriesOf who count s0 s) (sym last) (subst (λ s. AddsEntriesOf who count s t1) first grew))
+pub grew-there : (who : Actor) (s0 t0 t1 : HubSeen) (count : ℕ) → t0 ≡ s0 → AddsEntriesOf who count t0 t1 → GrewByEntries who s0 t1
+grew-there who s0 t0 t1 count first grew = (count, subst (λ s. AddsEntriesOf who count s t1) first grew)
 
-pub goes-there : (n : Numbers) (plans : List Plan) (old new : Run) (before after : AddonStates) (s0 t0 t1 s1 : HubSeen) → t0 ≡ s0 → s1 ≡ t1
-    → GoesOnAt n plans old t0.history before new t1.history after → GoesOnAt n plans old s0.history before new s1.history after
-goes-there n plans old new before after s0 t0 t1 s1 first last goes = λ s firsts numbers of f.
-    subst (λ (h : HubSeen). IsFollowed s new h.history after firsts) (sym last)
-    (goes s firsts numbers of (subst (λ (h : HubSeen). IsFollowed s old h.history before firsts) (sym first) f))
+pub goes-there : (n : Numbers) (plans : List Plan) (old new : Run) (before after : AddonStates) (s0 t0 t1 : HubSeen) → t0 ≡ s0
+    → GoesOnAt n plans old t0.history before new t1.history after → GoesOnAt n plans old s0.history before new t1.history after
+goes-there n plans old new before after s0 t0 t1 first goes = λ s firsts numbers of f.
+    goes s firsts numbers of (subst (λ (h : HubSeen). IsFollowed s old h.history before firsts) (sym first) f)
 
 -- TURN AFTER TURN
 -- what is said of a turn with the plans that the addons tell then, which are those that they told first

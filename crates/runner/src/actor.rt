@@ -10,7 +10,7 @@ use async_work::Job;
 use env_loop::{ActorRun, ActorTurn, NextStep};
 use hub_lock::{Hub, Locked};
 use napi_types::Gate;
-use shared_hub::{HubState, Naming, WaitsFor};
+use shared_hub::{HubState, Naming};
 use std::sync::Wait;
 use turn_lock::Pass;
 
@@ -49,7 +49,7 @@ pub fn run_actor<J: Job, N: Naming, R: Wait, G: Gate>(
             come_to_the_gate(rt, &actor, number, gate);
         }
         actor.between();
-        match turn_at_the_lock(rt, hub, pass, &mut actor, Some(number), most) {
+        match turn_at_the_lock(rt, hub, pass, &mut actor, true, most) {
             ActorTurn::Made => waited = false,
             ActorTurn::Blocked => {
                 hub.sleep(rt, number);
@@ -65,18 +65,18 @@ pub fn run_actor<J: Job, N: Naming, R: Wait, G: Gate>(
 fn come_to_the_gate<J: Job, R: Wait, G: Gate>(rt: &R, actor: &ActorRun<J>, number: u32, gate: &G) {
     match actor.next_step() {
         NextStep::Executes => gate.at(rt, number, BEFORE_A_JOB),
-        NextStep::Calls(_) | NextStep::Operation => gate.at(rt, number, BEFORE_AN_OPERATION),
+        NextStep::Operation => gate.at(rt, number, BEFORE_AN_OPERATION),
         NextStep::Ends | NextStep::Serves => {}
     }
 }
 
-/// One turn of the lock, in which a thread makes so many entries at most. A sleeper notes, where it waits, that it will sleep.
+/// One turn of the lock, in which a thread makes so many entries at most. Where it waits it falls asleep, but one that never sleeps stays awake.
 pub(crate) fn turn_at_the_lock<J: Job, N: Naming, R: Wait>(
     rt: &R,
     hub: &Hub<J, N>,
     pass: &mut Pass,
     actor: &mut ActorRun<J>,
-    sleeper: Option<u32>,
+    sleeps: bool,
     most: u32,
 ) -> ActorTurn
     requires lock { pass.old.lock ≡ hub.now.lock }
@@ -91,7 +91,8 @@ pub(crate) fn turn_at_the_lock<J: Job, N: Naming, R: Wait>(
 {
     let mut held = hub.take(rt, pass);
     held.value.knows();
-    let turn = burst_under_the_lock(&mut held.value, actor, sleeper, most);
+    let turn = burst_under_the_lock(&mut held.value, actor, most);
+    stay_awake(&mut held.value, sleeps);
     hub.give(pass, held);
     turn
 }
@@ -100,19 +101,18 @@ pub(crate) fn turn_at_the_lock<J: Job, N: Naming, R: Wait>(
 fn burst_under_the_lock<J: Job, N: Naming>(
     locked: &mut Locked<HubState<J, N>>,
     actor: &mut ActorRun<J>,
-    sleeper: Option<u32>,
     most: u32,
 ) -> ActorTurn
     requires stands { IsActorOf N.numbers locked.old.state.value actor.old }
     requires ready { IsReady actor.old }
     ensures { AfterBurst N.numbers actor.old locked.old.state.value result actor.new locked.new.state.value }
 {
-    let mut turn = turn_under_the_lock(locked, actor, sleeper);
+    let mut turn = turn_under_the_lock(locked, actor);
     for _ in 1..most {
         if turn != ActorTurn::Made || !is_at_an_operation(actor) {
             return turn;
         }
-        turn = turn_under_the_lock(locked, actor, sleeper);
+        turn = turn_under_the_lock(locked, actor);
     }
     turn
 }
@@ -121,17 +121,13 @@ fn burst_under_the_lock<J: Job, N: Naming>(
 fn is_at_an_operation<J: Job>(actor: &ActorRun<J>) -> bool
     ensures { result ≡ true → IsReady actor.now }
 {
-    matches!(
-        actor.next_step(),
-        NextStep::Calls(_) | NextStep::Operation | NextStep::Ends
-    )
+    matches!(actor.next_step(), NextStep::Operation | NextStep::Ends)
 }
 
 /// One turn of it while it holds the turn.
 fn turn_under_the_lock<J: Job, N: Naming>(
     locked: &mut Locked<HubState<J, N>>,
     actor: &mut ActorRun<J>,
-    sleeper: Option<u32>,
 ) -> ActorTurn
     requires stands { IsActorOf N.numbers locked.old.state.value actor.old }
     requires ready { IsReady actor.old }
@@ -140,28 +136,16 @@ fn turn_under_the_lock<J: Job, N: Naming>(
     ensures actor { IsSameActor actor.old actor.new }
     ensures known { IsLedHub N.numbers locked.new.state.value }
 {
-    let step = actor.next_step();
     let turn = actor.turn(&mut locked.state);
-    note_wait(locked, turn, step, sleeper);
     locked.knows();
     turn
 }
 
-/// A sleeper that waits will sleep: before `go`, for room in the queue of the function that it calls, or for a work.
-fn note_wait<J: Job, N: Naming>(
-    locked: &mut Locked<HubState<J, N>>,
-    turn: ActorTurn,
-    step: NextStep,
-    sleeper: Option<u32>,
-)
+/// One that never sleeps takes back that it waits, so that nobody rings it in the place of one that sleeps.
+fn stay_awake<J: Job, N: Naming>(locked: &mut Locked<HubState<J, N>>, sleeps: bool)
     ensures { locked.new.state.value ≡ locked.old.state.value }
 {
-    if let (ActorTurn::Blocked, Some(number)) = (turn, sleeper) {
-        let why = match step {
-            NextStep::Calls(id) if locked.state.is_live() => WaitsFor::Room(id),
-            NextStep::Calls(_) | NextStep::Operation | NextStep::Ends => WaitsFor::Go,
-            NextStep::Executes | NextStep::Serves => WaitsFor::Work,
-        };
-        locked.state.note_sleep(number, why);
+    if !sleeps {
+        let _wait = locked.state.take_wait();
     }
 }

@@ -21,7 +21,7 @@ use async_work::Job;
 use env_loop::{EnvRun, HubTurn, LocalTurn};
 use hub_lock::{Hub, Locked};
 use napi_types::Phase;
-use shared_hub::{HubState, Naming, WaitsFor};
+use shared_hub::{HubState, Naming};
 use std::sync::Wait;
 use turn_lock::Pass;
 
@@ -170,7 +170,7 @@ fn turn_at_the_lock<J: Job, N: Naming, R: Wait>(
     turn
 }
 
-/// What it does while it holds the turn: a burst of the hub's events. Where it has nothing to do then it notes that it will sleep.
+/// What it does while it holds the turn: a burst of the hub's events.
 fn turn_under_the_lock<J: Job, N: Naming>(
     locked: &mut Locked<HubState<J, N>>,
     env: &mut EnvRun,
@@ -191,16 +191,6 @@ fn turn_under_the_lock<J: Job, N: Naming>(
         drop n (map (λ b. regs b) addons.new.items) ≡ drop n (map (λ b. regs b) addons.old.items) }
 {
     let burst = env.hub_burst(&mut locked.state, addons, MOST_EVENTS);
-    note_idle(locked, burst.last);
     locked.knows();
     burst.last
-}
-
-/// Where it had nothing to do it will sleep.
-fn note_idle<J: Job, N: Naming>(locked: &mut Locked<HubState<J, N>>, turn: HubTurn)
-    ensures { locked.new.state.value ≡ locked.old.state.value }
-{
-    if turn == HubTurn::Nothing {
-        locked.state.note_sleep(ENVIRONMENT, WaitsFor::Entry);
-    }
 }

@@ -17,7 +17,7 @@ pub struct Stray<J: Job> {
     pub pass: Pass,
 }
 
-/// One turn of one of them: it executes the work that it started, and makes its next entry.
+/// One turn of one of them: it executes the work that it started, and makes its next entry. It never sleeps.
 fn turn_stray<J: Job, N: Naming, R: Wait>(
     rt: &R,
     hub: &Hub<J, N>,
@@ -29,7 +29,7 @@ fn turn_stray<J: Job, N: Naming, R: Wait>(
     ensures ended { result ≡ ActorTurn.Ended → HasEndedStray N.numbers stray.old stray.new }
 {
     stray.actor.between();
-    turn_at_the_lock(rt, hub, &mut stray.pass, &mut stray.actor, None, 1)
+    turn_at_the_lock(rt, hub, &mut stray.pass, &mut stray.actor, false, 1)
 }
 
 /// One turn of each, in order. It tells whether one of them made an entry.

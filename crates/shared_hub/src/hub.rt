@@ -140,7 +140,22 @@ impl<J: Job, N: Naming> HubState<J, N> {
         let _limit = self.limit;
     }
 
-    /// Notes that the pass of this number, from 0 to 63, will sleep, until it is rung. It has no meaning, and takes no memory.
+    /// Notes that the thread that holds the turn waits for `go`. No answer of the hub says so, since it makes no call before. It has no meaning.
+    pub fn wait_for_go(&mut self)
+        ensures { self.new ≡ self.old }
+    {
+        self.sleepers.wait_for(WaitsFor::Go);
+    }
+
+    /// For what the one that holds the turn waits, where the hub's last answer said that it does. Nothing is noted of that any more. Who will not sleep takes
+    /// the note so, before it gives the turn back. It has no meaning.
+    pub fn take_wait(&mut self) -> Option<WaitsFor>
+        ensures { self.new ≡ self.old }
+    {
+        self.sleepers.take_wait()
+    }
+
+    /// Notes that the pass of this number, from 0 to 63, sleeps until it is rung. It has no meaning, and takes no memory.
     pub fn note_sleep(&mut self, number: u32, why: WaitsFor)
         ensures { self.new ≡ self.old }
     {

@@ -1,6 +1,7 @@
 //! Who sleeps, for what, and who is to be rung.
 //!
-//! Who will sleep notes it under its turn. Who gives a reason to wake up notes under its own turn whom to ring. No contract sees the notes.
+//! Where the hub answers that its caller waits it notes for what. The caller falls asleep as it gives its turn back, unless it has taken that note. Who
+//! gives a reason to wake up notes under its own turn whom to ring. No contract sees the notes.
 use napi_types::{Call, Release, Status, TsfnId};
 
 /// Once anybody fell asleep so often since one did that sleeps for room, its own fall counted, the next ring for that room is its own.
@@ -70,6 +71,8 @@ pub(crate) struct Sleepers {
     rung_for_room: bool,
     // Whether one fell asleep for an entry, and no look since has found that none does. So that who makes an entry need not look.
     awaits_entry: bool,
+    // For what the one that holds the turn waits, where the last answer said that it does.
+    waits: Option<WaitsFor>,
 }
 
 impl Sleepers {
@@ -82,7 +85,27 @@ impl Sleepers {
             sleeps: 0,
             rung_for_room: false,
             awaits_entry: false,
+            waits: None,
         }
+    }
+
+    /// The one that holds the turn waits for this.
+    pub(crate) fn wait_for(&mut self, why: WaitsFor) {
+        self.waits = Some(why);
+    }
+
+    /// A call of a thread waits: for room in the queue of its function.
+    pub(crate) fn wait_for_call(&mut self, call: &Call) {
+        if let Call::CallThreadsafeFunction(id, _, _) = call {
+            self.wait_for(WaitsFor::Room(*id));
+        }
+    }
+
+    /// For what the one that holds the turn waits, where it does. Nothing is noted of that any more.
+    pub(crate) fn take_wait(&mut self) -> Option<WaitsFor> {
+        let waits = self.waits;
+        self.waits = None;
+        waits
     }
 
     /// The pass of this number, from 0 to 63, will sleep.
@@ -128,8 +151,9 @@ impl Sleepers {
         }
     }
 
-    /// A thread or a worker makes an entry, or a call of a thread stops: the environment is to be rung, and looks again for whom to ring.
+    /// A thread or a worker makes an entry, or a call of a thread stops, so it does not wait: the environment is to be rung, and looks again for whom to ring.
     pub(crate) fn note_entry(&mut self) {
+        self.waits = None;
         self.rung_for_room = false;
         if !self.awaits_entry {
             return;

@@ -54,13 +54,9 @@ impl ThreadRun {
 
     /// What it does next.
     pub(crate) fn next_step(&self) -> NextStep {
-        if self.over {
-            return NextStep::Ends;
-        }
         match self.operations.items().get(self.made as usize) {
-            None => NextStep::Ends,
-            Some(Op::ThreadCall(id, _, _)) => NextStep::Calls(TsfnId(*id)),
-            Some(_) => NextStep::Operation,
+            Some(_) if !self.over => NextStep::Operation,
+            _ => NextStep::Ends,
         }
     }
 
@@ -79,6 +75,7 @@ impl ThreadRun {
             return ActorTurn::Ended;
         }
         if !hub.is_live() {
+            hub.wait_for_go();
             return ActorTurn::Blocked;
         }
         hub.knows();

@@ -15,7 +15,7 @@ use env_core::EnvCore;
 use env_loop::{ActorRun, EnvRun};
 use hub_lock::Hub;
 use napi_types::{Limits, Listed, Mode, Op, OpList, OpenGate, Record, Release};
-use runner::{Crew, Stray, close, run_env};
+use runner::{Crew, Stray, run_env};
 use script_addon::{ScriptAddon, ScriptJob};
 use script_read::read_script;
 use shared_hub::Naming;
@@ -142,13 +142,13 @@ fn strays_of<N: Naming>(
     strays
 }
 
-/// A run with two threads and a worker, none of which has a thread of its own.
+/// A run with two threads and a worker, none of which has a thread of its own, and how often anybody fell asleep in it.
 fn run_of<N: Naming, R: Abort + Wait>(
     rt: &R,
     alloc: Global,
     script: &[u8],
     threads: [Calls; 2],
-) -> Record
+) -> (Record, u64)
     requires named { N.numbers ≡ record { threads = 2; workers = 1; limits = record { journal = 0; history = 200 } } }
 {
     let hub = opened_hub::<N>(rt, alloc, 2, 1, PLACES);
@@ -158,20 +158,23 @@ fn run_of<N: Naming, R: Abort + Wait>(
     let mut env = opened(rt, alloc);
     let mut addons = scripted(rt, alloc, script);
     run_env(rt, &hub, &mut first, &mut env, &mut addons, &mut strays);
-    close(hub, passes_behind(rt, alloc, first, strays), env)
+    let state = Box::into_inner(hub.close(passes_behind(rt, alloc, first, strays)));
+    let sleeps = state.sleeps();
+    (env.into_record(state), sleeps)
 }
 
-/// What the two lists of such a run tell. The numbers are named here.
+/// What the two lists of such a run tell, and how often anybody fell asleep. The numbers are named here.
 fn told<R: Abort + Wait>(
     rt: &R,
     alloc: Global,
     script: &[u8],
     threads: [Calls; 2],
-) -> (Vec<InJournal>, Vec<InHistory>) {
-    let record = run_of::<Brand, R>(rt, alloc, script, threads);
+) -> (Vec<InJournal>, Vec<InHistory>, u64) {
+    let (record, sleeps) = run_of::<Brand, R>(rt, alloc, script, threads);
     (
         journal_of(rt, alloc, &record),
         history_of(rt, alloc, &record),
+        sleeps,
     )
 }
 
@@ -241,10 +244,11 @@ fn counted<R: Abort + Wait>(
     script: &[u8],
     threads: [Calls; 2],
 ) -> [usize; 9] {
-    let (journal, history) = told(rt, alloc, script, threads);
-    let (same_journal, same_history) = told(rt, alloc, script, threads);
+    let (journal, history, sleeps) = told(rt, alloc, script, threads);
+    let (same_journal, same_history, same_sleeps) = told(rt, alloc, script, threads);
     assert_eq!(rt; journal.as_slice(), same_journal.as_slice());
     assert_eq!(rt; history.as_slice(), same_history.as_slice());
+    assert_eq!(rt; sleeps, same_sleeps);
     counts_of(&history)
 }
 
@@ -313,6 +317,13 @@ fn all_actors_are_strays(rt: HostRuntime) {
         counted(&rt, alloc, LATE_WORK, none),
         [0, 2, 1, 1, 1, 1, 1, 0, 0]
     );
+}
+
+/// The environment alone falls asleep: while all of them are left, and while the worker is, which waits in between and stays awake.
+#[test]
+fn a_stray_never_falls_asleep(rt: HostRuntime) {
+    let (_, _, sleeps) = told(&rt, rt.alloc(), OPEN, [Calls::None; 2]);
+    assert_eq!(&rt; sleeps, 2);
 }
 
 #[test]

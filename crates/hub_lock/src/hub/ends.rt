@@ -40,7 +40,7 @@ impl<J: Job, N: Naming> Hub<J, N> {
         let actor = self.actor(number);
         let mut held = self.take(rt, pass);
         held.value.knows();
-        let ended = held.value.end(number, actor, cut);
+        let ended = held.value.end(actor, cut);
         self.give(pass, held);
         ended
     }

@@ -43,7 +43,7 @@ impl<J: Job, N: Naming> Hub<J, N> {
         let worker = self.worker(number);
         let mut held = self.take(rt, pass);
         held.value.knows();
-        let picked = held.value.start(number, worker);
+        let picked = held.value.start(worker);
         self.give(pass, held);
         picked
     }

@@ -68,7 +68,7 @@ impl<J: Job, N: Naming> HubState<J, N> {
     /// Makes a call of a thread, one of the three that threads make. `step` is the number of the operation in the thread's script, from 0.
     ///
     /// It waits where the queue is full and the mode blocks. Room is looked for before it waits, so a call that waits has room. It stops as
-    /// [`HubState::env_shared`] does.
+    /// [`HubState::env_shared`] does. That it waits is noted: see [`HubState::take_wait`].
     ///
     /// Near constant time, as there.
     pub fn thread_call(&mut self, thread: u32, step: u32, call: &Call) -> ThreadTried
@@ -101,7 +101,10 @@ impl<J: Job, N: Naming> HubState<J, N> {
                     .push_reserved(thread_entry(thread, step, call, reply));
                 ThreadTried::Reply(reply)
             }
-            Ok(None) => ThreadTried::Wait,
+            Ok(None) => {
+                self.sleepers.wait_for_call(call);
+                ThreadTried::Wait
+            }
             Err(NoMemory) => {
                 self.sleepers.note_entry();
                 ThreadTried::Stop(Status::NoMemory)

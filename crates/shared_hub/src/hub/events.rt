@@ -30,7 +30,7 @@ impl<J: Job, N: Naming> HubState<J, N> {
 
     /// `loop_end`, where the loop ends. It ends for `Exit` where exit was asked, else not while a ticket is due (`due`) or the hub has a
     /// move. Else it ends idle, where nothing is left to do, or quiet, where nobody is left who could give it something to do. `None`
-    /// where it does not end, and nothing changes.
+    /// where it does not end, and nothing changes. That the environment waits is noted then: see [`HubState::take_wait`].
     ///
     /// Constant time. It takes no memory.
     pub fn loop_end(&mut self, exit: bool, due: bool) -> Option<LoopEnd>
@@ -40,7 +40,10 @@ impl<J: Job, N: Naming> HubState<J, N> {
         ensures ended { IfSome result (λ why. AddsEntry self.old (entry_of host.LoopEnd (out.Ended why)) self.new) }
         ensures goes_on { IfNone result (self.new ≡ self.old) }
     {
-        let why = self.end_reason(exit, due)?;
+        let Some(why) = self.end_reason(exit, due) else {
+            self.sleepers.wait_for(WaitsFor::Entry);
+            return None;
+        };
         self.progress.stage = HubStage::Looped;
         self.entries
             .push_reserved(host_entry(HostStep::LoopEnd, Out::Ended(why)));
@@ -65,7 +68,7 @@ impl<J: Job, N: Naming> HubState<J, N> {
     }
 
     /// `finals`, where it may come: once every thread and every worker has ended, no work runs and the hub has no move. Whether it came;
-    /// where it did not nothing changes.
+    /// where it did not nothing changes, and that the environment waits is noted: see [`HubState::take_wait`].
     ///
     /// Constant time. It takes no memory.
     pub fn finals(&mut self) -> bool
@@ -75,6 +78,7 @@ impl<J: Job, N: Naming> HubState<J, N> {
         ensures comes { MatchBool result (AddsEntry self.old (entry_of host.Finals out.Nothing) self.new) (self.new ≡ self.old) }
     {
         if self.parts.has_move() || !self.is_spent() {
+            self.sleepers.wait_for(WaitsFor::Entry);
             return false;
         }
         self.progress.stage = HubStage::Final;

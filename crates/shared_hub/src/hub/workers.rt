@@ -16,12 +16,13 @@ ghost use Rattle.shared_hub.specs.SharedTries.{MayEnd, actor_end_told as end_tol
 
 use super::HubState;
 use crate::naming::Naming;
+use crate::sleepers::WaitsFor;
 use async_work::{Job, Picked, Ran};
 use napi_types::{Actor, Duty, Entry, HostStep, Out, Reply, Status, What, Why};
 
 impl<J: Job, N: Naming> HubState<J, N> {
     /// A worker that executes nothing and has not ended starts the work that was queued first. `Closing` exactly from the drain on,
-    /// `Nothing` exactly where none waits before it; where it starts none nothing changes.
+    /// `Nothing` exactly where none waits before it, and that the worker waits is noted: see [`HubState::take_wait`]. Where it starts none nothing changes.
     ///
     /// Constant time over all starts. It takes no memory.
     pub fn start(&mut self, worker: u32) -> Picked<J>
@@ -44,7 +45,10 @@ impl<J: Job, N: Naming> HubState<J, N> {
                 ));
                 Picked::Job(running)
             }
-            Picked::Nothing => Picked::Nothing,
+            Picked::Nothing => {
+                self.sleepers.wait_for(WaitsFor::Work);
+                Picked::Nothing
+            }
             Picked::Closing => Picked::Closing,
         }
     }

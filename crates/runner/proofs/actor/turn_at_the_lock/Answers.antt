@@ -12,7 +12,7 @@ burst_under_the_lock-turn-requires-clause-stands g c κs within =
 
 pub give-requires-clause-adds : goal.give-requires-clause-adds
 give-requires-clause-adds g c κs within =
-    rw c.take-held.ensures.taken
+    rw (c.take-held.ensures.taken, c.stay_awake.ensures)
     (burst-goes-on g.N.Naming.numbers c.take-held.result.seat.me.0.number c.args.actor.now c.burst_under_the_lock-turn.new.actor c.take-held.result.value.state.value
     c.burst_under_the_lock-turn.new.locked.state.value c.burst_under_the_lock-turn.result c.burst_under_the_lock-turn.ensures
     (ap (λ (h : PassState). h.number) c.take-held.ensures.holder ∙ c.requires.at.number))
@@ -22,4 +22,5 @@ returns-clause-at g c =
     let b = c.burst_under_the_lock-turn in
     actor-after g.N.Naming.numbers c.args.pass.now c.give.new.pass c.args.actor.now b.new.actor b.new.locked.state.value c.requires.at b.ensures.same
     (same-pass-back c.args.pass.now c.give.new.pass _ _ _ c.take-held.ensures.holder c.give.ensures.pass).number
-    b.ensures.known (ap (λ (q : PassState). q.seen) c.give.ensures.pass) c.give.ensures.own b.ensures.stands
+    b.ensures.known (rw c.stay_awake.ensures at (ap (λ (q : PassState). q.seen) c.give.ensures.pass)) (rw c.stay_awake.ensures at c.give.ensures.own)
+    b.ensures.stands

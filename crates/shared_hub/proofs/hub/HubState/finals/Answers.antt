@@ -24,8 +24,8 @@ returns-then-has_move-clause-may g c =
       | then-has_move-via-else-has_move+then-not-is_spent w ↦ unspent-waits (hub_move h) (is_spent h) (subst (λ (s : HubSeen). is_spent s.hub ≡ false) (sym c.self.view_is) (sym w.is_spent.ensures ∙ w.if-not-is_spent.true))
     ])
 
-pub invariant_of-self : goal.invariant_of-self
-invariant_of-self g c =
+pub invariant_of-self-2 : goal.invariant_of-self-2
+invariant_of-self-2 g c =
     let s = c.self.inside in
     let h : Hub = led_by g.N.Naming.numbers s.entries.items in
     rw (c.push_reserved.ensures.items, c.host_entry.ensures, c.push_reserved.ensures.capacity)

@@ -11,20 +11,20 @@ use Rattle.shared_hub.proofs.HubHistories.{ComesNext, event-kept, adds-next}
 use Rattle.shared_hub.proofs.hub.HubState.loop_end.Goals as goal
 use Rattle.shared_hub.proofs.hub.HubState.loop_end.Goals.{After-push_reserved}
 
-comes : (g : _) (c : After-push_reserved g) → ComesNext (led_by g.N.Naming.numbers c.self.inside.entries.items) (host_entry host.LoopEnd (out.Ended c.in_ok-why.why))
+comes : (g : _) (c : After-push_reserved g) → ComesNext (led_by g.N.Naming.numbers c.self.inside.entries.items) (host_entry host.LoopEnd (out.Ended c.in-Some.why))
     (staged host.LoopEnd (led_by g.N.Naming.numbers c.self.inside.entries.items))
 comes g c =
-    loop-ends _ c.in_ok-why.why (rw (← c.self.view_is) at c.requires.going) (rw (← c.self.view_is) at c.requires.alone)
+    loop-ends _ c.in-Some.why (rw (← c.self.view_is) at c.requires.going) (rw (← c.self.view_is) at c.requires.alone)
 
-pub invariant_of-self : goal.invariant_of-self
-invariant_of-self g c =
+pub invariant_of-self-2 : goal.invariant_of-self-2
+invariant_of-self-2 g c =
     let s = c.self.inside in
     let h : Hub = led_by g.N.Naming.numbers s.entries.items in
     rw (c.push_reserved.ensures.items, c.host_entry.ensures, c.push_reserved.ensures.capacity)
-    (event-kept g.N.Naming.numbers s.entries.items s.limit _ (host_entry host.LoopEnd (out.Ended c.in_ok-why.why)) (staged host.LoopEnd h) s.parts _ c.self.invariant.0 (comes g c) refl
+    (event-kept g.N.Naming.numbers s.entries.items s.limit _ (host_entry host.LoopEnd (out.Ended c.in-Some.why)) (staged host.LoopEnd h) s.parts _ c.self.invariant.0 (comes g c) refl
     (staged-fields h host.LoopEnd code.Looped s.parts s.progress (rw (rw (← c.self.view_is) at c.requires.going) refl) c.self.invariant.1))
 
 pub returns-clause-ended : goal.returns-clause-ended
 returns-clause-ended g c =
     rw (c.push_reserved.ensures.items, c.host_entry.ensures, ← c.self.view_is)
-    (adds-next g.N.Naming.numbers c.self.inside.entries.items (host_entry host.LoopEnd (out.Ended c.in_ok-why.why)) (comes g c).next)
+    (adds-next g.N.Naming.numbers c.self.inside.entries.items (host_entry host.LoopEnd (out.Ended c.in-Some.why)) (comes g c).next)
