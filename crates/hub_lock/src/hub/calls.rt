@@ -17,6 +17,8 @@ impl<J: Job, N: Naming> Hub<J, N> {
     /// blocks. `step` is the number of the operation in the thread's script, from 0.
     ///
     /// The call's entry is the last row of the pass's own. At `TraceFull` and `NoMemory` there is none.
+    ///
+    /// It is for embedders whose threads are no scripts. `runner` does not use it: there a call that stops and the thread's end are one turn.
     pub fn call_tsfn<R: Wait>(
         &self,
         rt: &R,
@@ -40,7 +42,8 @@ impl<J: Job, N: Naming> Hub<J, N> {
         )
     }
 
-    /// One thread more holds a function: the manual's `napi_acquire_threadsafe_function`. It waits until `go`. See [`Hub::call_tsfn`].
+    /// One thread more holds a function: the manual's `napi_acquire_threadsafe_function`. It waits until `go`. See [`Hub::call_tsfn`]: `runner`
+    /// does not use it either.
     pub fn acquire_tsfn<R: Wait>(&self, rt: &R, pass: &mut Pass, step: u32, id: TsfnId) -> Reply
         requires lock { pass.old.lock ≡ self.now.lock }
         requires free { pass.old.holds ≡ false }
@@ -51,7 +54,8 @@ impl<J: Job, N: Naming> Hub<J, N> {
         self.make_call(rt, pass, step, &Call::AcquireThreadsafeFunction(id))
     }
 
-    /// One thread less holds a function: the manual's `napi_release_threadsafe_function`. It waits until `go`. See [`Hub::call_tsfn`].
+    /// One thread less holds a function: the manual's `napi_release_threadsafe_function`. It waits until `go`. See [`Hub::call_tsfn`]: `runner`
+    /// does not use it either.
     pub fn release_tsfn<R: Wait>(
         &self,
         rt: &R,

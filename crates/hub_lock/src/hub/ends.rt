@@ -13,7 +13,7 @@ use turn_lock::Pass;
 impl<J: Job, N: Naming> Hub<J, N> {
     /// A thread or a worker ends. A thread waits until `go`, and may be cut; a worker has seen the drain, and executes nothing.
     ///
-    /// The end's entry is the last row of the pass's own.
+    /// The end's entry is the last row of the pass's own. `runner` does not use it: see [`Hub::call_tsfn`].
     pub fn actor_ends<R: Wait>(&self, rt: &R, pass: &mut Pass, cut: Option<Why>)
         requires lock { pass.old.lock ≡ self.now.lock }
         requires free { pass.old.holds ≡ false }

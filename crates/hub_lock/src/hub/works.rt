@@ -13,7 +13,7 @@ use turn_lock::Pass;
 impl<J: Job, N: Naming> Hub<J, N> {
     /// A worker starts the work that was queued first. It waits while none is queued and works may start. `Closing` from the drain on.
     ///
-    /// The start's entry is the last row of the pass's own; where it starts none nothing is added.
+    /// The start's entry is the last row of the pass's own; where it starts none nothing is added. `runner` does not use it: see [`Hub::call_tsfn`].
     pub fn start_work<R: Wait>(&self, rt: &R, pass: &mut Pass) -> Picked<J>
         requires lock { pass.old.lock ≡ self.now.lock }
         requires free { pass.old.holds ≡ false }
@@ -48,7 +48,8 @@ impl<J: Job, N: Naming> Hub<J, N> {
         picked
     }
 
-    /// A worker finishes the work that it executed. The finish's entry is the last row of the pass's own.
+    /// A worker finishes the work that it executed. The finish's entry is the last row of the pass's own. `runner` does not use it: see
+    /// [`Hub::call_tsfn`].
     pub fn finish_work<R: Wait>(&self, rt: &R, pass: &mut Pass, ran: Ran)
         requires lock { pass.old.lock ≡ self.now.lock }
         requires free { pass.old.holds ≡ false }
