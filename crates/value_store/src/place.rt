@@ -6,7 +6,6 @@ ghost use Rattle.napi_types.specs.parts.Properties.{most_index, property_at, ele
 ghost use Rattle.napi_types.specs.parts.Values.{with_property, without_property, with_element};
 ghost use Rattle.value_store.specs.ValuePlaces.{value_here, properties_here, elements_here, HasValue, ChangesPlace};
 
-use crate::ValueInfo;
 use crate::parts::Parts;
 use napi_types::{Body, NoMemory, TextNo, ValueId};
 use std::alloc::Global;
@@ -72,17 +71,6 @@ impl ValuePlace {
             place.set_prop(alloc, CODE, code)?;
         }
         Ok(place)
-    }
-
-    /// The value, with its creation number.
-    pub(crate) fn value(&self, number: u64) -> ValueInfo<'_>
-        ensures { result ≡ value_here number self.now }
-    {
-        match self {
-            ValuePlace::Plain(body) => ValueInfo::plain(number, *body),
-            ValuePlace::One(name, to, body) => ValueInfo::one(number, *body, *name, *to),
-            ValuePlace::Full(body, parts) => ValueInfo::full(number, *body, parts),
-        }
     }
 
     /// Sets a property. A name that is there keeps its place, and a new one goes last. The first takes no memory.

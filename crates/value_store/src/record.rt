@@ -21,6 +21,6 @@ impl ValueRecord {
     pub(crate) fn info(&self) -> ValueInfo<'_>
         ensures { result ≡ value_of_record self.now }
     {
-        self.value.value(self.number)
+        ValueInfo::of(self)
     }
 }
