@@ -5,16 +5,15 @@ use Rattle.napi_types.specs.declared.body.Body.TheVariants as body
 use Rattle.napi_types.specs.declared.ids.ValueId.{ValueId}
 use Rattle.napi_types.specs.plain.Lists.{found}
 use Rattle.napi_types.specs.parts.Bodies.{is_object_like}
-use Rattle.napi_types.specs.parts.Graph.{StoreState, IsLive, value_of, number_in, renamed}
+use Rattle.napi_types.specs.parts.Graph.{StoreState, IsSoundStore, IsLive, value_of, number_in, renamed}
 use Rattle.napi_types.specs.parts.Heap.{handle_body, handle_properties, handle_elements}
 use Rattle.napi_types.specs.parts.Properties.{Property, property_at, element_at}
 use Rattle.napi_types.specs.parts.Scopes.{FrameScopes, gives}
 use Rattle.napi_types.specs.parts.Values.{Value, value_at, undefined_value}
 use Rattle.handle_scope.specs.HandleScopes.{HandleScopes}
-use Rattle.value_store.specs.StoreChanges.{properties_in, elements_in}
 use Rattle.env_values.specs.declared.known.HandleValue.{HandleValue}
 use Rattle.env_values.specs.SeenValues.{seen_frame, heap_of, HoldsLive}
-use Rattle.env_values.specs.ValueSteps.{IsValueOf}
+use Rattle.env_values.specs.ValueSteps.{IsValueOf, IsLentBy}
 use Rattle.env_values.proofs.Held.{given-holds}
 use Rattle.env_values.proofs.SeenValues.{gives-seen}
 
@@ -56,6 +55,19 @@ body-known s scopes h v k =
 pub like-known : (s : StoreState) (scopes : HandleScopes) (h : ℕ) (v : HandleValue) → IsValueOf s scopes h v → is_object_like v.body ≡ true → is_object_like (handle_body (heap_of s scopes) h) ≡ true
 like-known s scopes h v k like = ap is_object_like (body-known s scopes h v k) ∙ like
 
+-- a value that the store lends
+pub lent-value : (s : StoreState) (scopes : HandleScopes) (h id : ℕ) (v : Value) → IsSoundStore s → Some id ≡ gives scopes.frames h → Some v ≡ value_of s id
+    → value_at (heap_of s scopes).values (number_in s id) ≡ option_map (renamed s) (value_of s id) → IsLentBy s scopes h v
+lent-value s scopes h id v sound given is seen =
+    let found : gives (map (seen_frame s) scopes.frames) h ≡ Some (number_in s id) = gives-seen s scopes.frames h ∙ ap (option_map (number_in s)) (sym given) in
+    record {
+      id = id;
+      stored = sym is;
+      known = ap is_some found;
+      seen = ap (λ o. value_at (heap_of s scopes).values (unwrap_or o undefined_value)) found ∙ seen ∙ ap (option_map (renamed s)) (sym is);
+      named = sound.closed id v (sym is);
+    }
+
 -- what the machine sees is there where the store has it
 pub same-there : (s : StoreState) (o : Option ℕ) (found : Option ValueId) → option_map (λ v. v.0) found ≡ o → is_some (option_map (number_in s) o) ≡ is_some found
 same-there s o None e = ap (λ q. is_some (option_map (number_in s) q)) (sym e)
@@ -80,30 +92,25 @@ property-seen s name (p ∷ ps) = by (property-seen s name ps) (p.name == name)
     by rest true = refl
     by rest false = rest
 
-module _ (s : StoreState) (scopes : HandleScopes) (h : ℕ) (v : HandleValue) (k : IsValueOf s scopes h v) where
-  pub properties-known : handle_properties (heap_of s scopes) h ≡ map (seen_property s) (properties_in s v.id.0)
-  properties-known =
-      ap (λ n. unwrap_or (option_map (λ (w : Value). w.properties) (value_at (heap_of s scopes).values n)) []) k.number
-      ∙ ap (λ o. unwrap_or (option_map (λ (w : Value). w.properties) o) []) k.seen ∙ by (value_of s v.id.0)
-    where
-      by : (o : Option Value) → unwrap_or (option_map (λ (w : Value). w.properties) (option_map (renamed s) o)) [] ≡ map (seen_property s) (unwrap_or (option_map (λ (w : Value). w.properties) o) [])
-      by None = refl
-      by (Some w) = refl
+-- what a lent value is to the machine
+module _ (s : StoreState) (scopes : HandleScopes) (h : ℕ) (v : Value) (k : IsLentBy s scopes h v) where
+  pub body-lent : handle_body (heap_of s scopes) h ≡ v.body
+  body-lent = ap (λ o. unwrap_or (option_map (λ (w : Value). w.body) o) body.Undefined) k.seen
 
-  pub property-known : (name : ℕ) → property_at name (handle_properties (heap_of s scopes) h) ≡ option_map (number_in s) (property_at name (properties_in s v.id.0))
-  property-known name = ap (property_at name) properties-known ∙ property-seen s name (properties_in s v.id.0)
+  pub like-lent : is_object_like v.body ≡ true → is_object_like (handle_body (heap_of s scopes) h) ≡ true
+  like-lent like = ap is_object_like body-lent ∙ like
 
-  pub elements-known : handle_elements (heap_of s scopes) h ≡ map (option_map (number_in s)) (elements_in s v.id.0)
-  elements-known =
-      ap (λ n. unwrap_or (option_map (λ (w : Value). w.elements) (value_at (heap_of s scopes).values n)) []) k.number
-      ∙ ap (λ o. unwrap_or (option_map (λ (w : Value). w.elements) o) []) k.seen ∙ by (value_of s v.id.0)
-    where
-      by : (o : Option Value) → unwrap_or (option_map (λ (w : Value). w.elements) (option_map (renamed s) o)) [] ≡ map (option_map (number_in s)) (unwrap_or (option_map (λ (w : Value). w.elements) o) [])
-      by None = refl
-      by (Some w) = refl
+  pub properties-lent : handle_properties (heap_of s scopes) h ≡ map (seen_property s) v.properties
+  properties-lent = ap (λ o. unwrap_or (option_map (λ (w : Value). w.properties) o) []) k.seen
 
-  pub element-known : (at : ℕ) → element_at at (handle_elements (heap_of s scopes) h) ≡ option_map (number_in s) (element_at at (elements_in s v.id.0))
-  element-known at = ap (element_at at) elements-known ∙ element-seen at (elements_in s v.id.0)
+  pub property-lent : (name : ℕ) → property_at name (handle_properties (heap_of s scopes) h) ≡ option_map (number_in s) (property_at name v.properties)
+  property-lent name = ap (property_at name) properties-lent ∙ property-seen s name v.properties
+
+  pub elements-lent : handle_elements (heap_of s scopes) h ≡ map (option_map (number_in s)) v.elements
+  elements-lent = ap (λ o. unwrap_or (option_map (λ (w : Value). w.elements) o) []) k.seen
+
+  pub element-lent : (at : ℕ) → element_at at (handle_elements (heap_of s scopes) h) ≡ option_map (number_in s) (element_at at v.elements)
+  element-lent at = ap (element_at at) elements-lent ∙ element-seen at v.elements
     where
       element-seen : (at : ℕ) (es : List (Option ℕ)) → element_at at (map (option_map (number_in s)) es) ≡ option_map (number_in s) (element_at at es)
       element-seen at [] = refl

@@ -9,12 +9,12 @@ use Rattle.napi_types.specs.parts.Graph.{StoreState}
 use Rattle.napi_types.specs.parts.Heap.{handle_body, handle_properties}
 use Rattle.napi_types.specs.parts.HeapRefusals.{refusal_in}
 use Rattle.napi_types.specs.parts.Properties.{most_names, most_index}
+use Rattle.napi_types.specs.parts.Values.{Value}
 use Rattle.handle_scope.specs.HandleScopes.{HandleScopes}
-use Rattle.value_store.specs.StoreChanges.{properties_in}
 use Rattle.env_values.specs.declared.known.HandleValue.{HandleValue}
 use Rattle.env_values.specs.SeenValues.{heap_of}
-use Rattle.env_values.specs.ValueSteps.{IsValueOf}
-use Rattle.env_values.proofs.HandleValues.{like-known, properties-known, seen_property}
+use Rattle.env_values.specs.ValueSteps.{IsValueOf, IsLentBy}
+use Rattle.env_values.proofs.HandleValues.{like-known, like-lent, properties-lent, seen_property}
 
 -- a named property is set
 pub set_named-unrefused : {s : StoreState} {scopes : HandleScopes} {object value : HandleValue} (texts : ℕ) (h : HandleId) (name : TextNo) (v : HandleId)
@@ -25,11 +25,11 @@ set_named-unrefused {s} {scopes} {object} {value} texts h name v k l known like 
     rw (k.known, l.known, known, seen) refl
 
 -- or got
-pub get_named-unrefused : {s : StoreState} {scopes : HandleScopes} {object : HandleValue} (texts : ℕ) (h : HandleId) (name : TextNo)
-    → IsValueOf s scopes h.0 object → nat_lt name.0 texts ≡ true → is_object_like object.body ≡ true
+pub get_named-unrefused : {s : StoreState} {scopes : HandleScopes} {object : Value} (texts : ℕ) (h : HandleId) (name : TextNo)
+    → IsLentBy s scopes h.0 object → nat_lt name.0 texts ≡ true → is_object_like object.body ≡ true
     → refusal_in texts (heap_of s scopes) (call.GetNamedProperty h name) ≡ None
 get_named-unrefused {s} {scopes} {object} texts h name k known like =
-    let seen : is_object_like (handle_body (heap_of s scopes) h.0) ≡ true = like-known s scopes h.0 object k like in
+    let seen : is_object_like (handle_body (heap_of s scopes) h.0) ≡ true = like-lent s scopes h.0 object k like in
     rw (k.known, known, seen) refl
 
 -- an element is set
@@ -41,12 +41,12 @@ set_element-unrefused {s} {scopes} {object} {value} texts h at v k l like within
     rw (k.known, l.known, seen, within) refl
 
 -- names are listed
-pub names-unrefused : {s : StoreState} {scopes : HandleScopes} {object : HandleValue} (texts : ℕ) (h : HandleId)
-    → IsValueOf s scopes h.0 object → is_object_like object.body ≡ true → nat_lt most_names (length (properties_in s object.id.0)) ≡ false
+pub names-unrefused : {s : StoreState} {scopes : HandleScopes} {object : Value} (texts : ℕ) (h : HandleId)
+    → IsLentBy s scopes h.0 object → is_object_like object.body ≡ true → nat_lt most_names (length object.properties) ≡ false
     → refusal_in texts (heap_of s scopes) (call.GetPropertyNames h) ≡ None
 names-unrefused {s} {scopes} {object} texts h k like few =
-    let seen : is_object_like (handle_body (heap_of s scopes) h.0) ≡ true = like-known s scopes h.0 object k like in
-    let many : length (handle_properties (heap_of s scopes) h.0) ≡ length (properties_in s object.id.0) =
-    ap length (properties-known s scopes h.0 object k) ∙ length-map (properties_in s object.id.0) (seen_property s) in
+    let seen : is_object_like (handle_body (heap_of s scopes) h.0) ≡ true = like-lent s scopes h.0 object k like in
+    let many : length (handle_properties (heap_of s scopes) h.0) ≡ length object.properties =
+    ap length (properties-lent s scopes h.0 object k) ∙ length-map object.properties (seen_property s) in
     let within : nat_lt most_names (length (handle_properties (heap_of s scopes) h.0)) ≡ false = ap (nat_lt most_names) many ∙ few in
     rw (k.known, seen, within) refl

@@ -1,5 +1,6 @@
 -- What the calls come to.
 use Rattle.std.specs.Prelude.{◌≡◌, ℕ, Some, None, is_some, true, option_map, IsTrue}
+use Rattle.std.specs.List.{All}
 use Rattle.std.specs.declared.result.Result.{Result}
 use Rattle.std.specs.declared.result.Result.TheVariants.{Ok, Err}
 use Rattle.napi_types.specs.declared.call.Call.{Call}
@@ -7,12 +8,12 @@ use Rattle.napi_types.specs.declared.entry.NoMemory.{NoMemory}
 use Rattle.napi_types.specs.declared.entry.Out.{Out}
 use Rattle.napi_types.specs.plain.Guards.{is_growing}
 use Rattle.napi_types.specs.plain.Replies.{Answer, accepts}
-use Rattle.napi_types.specs.parts.Graph.{StoreState, value_of, number_in, renamed}
+use Rattle.napi_types.specs.parts.Graph.{StoreState, IsLive, value_of, number_in, renamed}
 use Rattle.napi_types.specs.parts.Heap.{Heap, handle_value}
 use Rattle.napi_types.specs.parts.HeapCalls.{heap_effect, addon_effect}
 use Rattle.napi_types.specs.parts.HeapRefusals.{refusal_in}
 use Rattle.napi_types.specs.parts.Scopes.{gives}
-use Rattle.napi_types.specs.parts.Values.{value_at}
+use Rattle.napi_types.specs.parts.Values.{Value, value_at, children}
 use Rattle.handle_scope.specs.HandleScopes.{HandleScopes}
 use Rattle.env_values.specs.declared.known.HandleValue.{HandleValue}
 use Rattle.env_values.specs.declared.stop.Stop.{Stop}
@@ -29,6 +30,14 @@ pub record IsValueOf (store : StoreState) (scopes : HandleScopes) (h : ℕ) (v :
   pub number : handle_value (heap_of store scopes) h ≡ number_in store v.id.0
   pub body : IsStored store v
   pub seen : value_at (heap_of store scopes).values (number_in store v.id.0) ≡ option_map (renamed store) (value_of store v.id.0)
+
+-- an open scope holds the handle, and this is its value: the machine sees it with the creation numbers of what it names, and all of that is live
+pub record IsLentBy (store : StoreState) (scopes : HandleScopes) (h : ℕ) (v : Value) : Type 0 where
+  pub id : ℕ
+  pub stored : value_of store id ≡ Some v
+  pub known : is_some (gives (heap_of store scopes).scopes h) ≡ true
+  pub seen : value_at (heap_of store scopes).values (handle_value (heap_of store scopes) h) ≡ Some (renamed store v)
+  pub named : All (IsLive store) (children v)
 
 -- what a call comes to, where an accepted one has this effect: its result where nothing refuses it, and the heap that it leaves; or the first refusal; or
 -- want of memory, where it grows and nothing refuses it. The last two leave the heap as it was

@@ -6,13 +6,12 @@ ghost use Rattle.napi_types.specs.parts.Properties.{element_at};
 ghost use Rattle.napi_types.specs.parts.Scopes.{gives};
 ghost use Rattle.napi_types.specs.parts.Values.{undefined_value};
 ghost use Rattle.std.specs.Option.{unwrap_or};
-ghost use Rattle.value_store.specs.StoreChanges.{elements_in};
 ghost use Rattle.env_values.specs.SeenValues.{heap_of, HoldsLive};
-ghost use Rattle.env_values.specs.ValueSteps.{IsValueOf, IsStored};
+ghost use Rattle.env_values.specs.ValueSteps.{IsValueOf, IsLentBy, IsStored};
 
 use handle_scope::Scopes;
 use napi_types::{Body, HandleId, Status, TextNo, ValueId};
-use value_store::Store;
+use value_store::{Store, ValueInfo};
 
 /// The value that a handle gives: its number in the store, and what it is.
 #[derive(Clone, Copy)]
@@ -41,6 +40,27 @@ pub fn value_of_handle(
             id,
             body: value.body(),
         }),
+        None => unreachable!(),
+    }
+}
+
+/// The value of a handle, as the store lends it, refused as an invalid argument where no open scope holds the handle. A call that
+/// reads a property or an element takes it from here, and so looks the value up once.
+pub(crate) fn lent_value<'a>(
+    store: &'a Store,
+    scopes: &Scopes,
+    handle: HandleId,
+) -> Result<ValueInfo<'a>, Status>
+    requires { HoldsLive store.now scopes.now }
+    ensures ok { IfOk result (λ value. IsLentBy store.now scopes.now handle.0 value) }
+    ensures unknown { IfErr result (λ status. is_some (gives (heap_of store.now scopes.now).scopes handle.0) ≡ false) }
+    ensures refused { IfErr result (λ status. status ≡ Status.InvalidArg) }
+{
+    let Some(id) = scopes.look(handle) else {
+        return Err(Status::InvalidArg);
+    };
+    match store.get(id) {
+        Some(value) => Ok(value),
         None => unreachable!(),
     }
 }
@@ -186,15 +206,14 @@ pub(crate) fn equals_strictly(store: &Store, left: HandleValue, right: HandleVal
 }
 
 /// The element of an index, `None` exactly at a hole or past the end.
-pub(crate) fn element(store: &Store, id: ValueId, index: u64) -> Option<ValueId>
-    ensures value { option_map (λ v. v.0) result ≡ element_at index (elements_in store.now id.0) }
-    ensures live { IfSome result (λ v. IsLive store.now v.0) }
+pub(crate) fn element(object: &ValueInfo<'_>, index: u64) -> Option<ValueId>
+    ensures { option_map (λ v. v.0) result ≡ element_at index object.now.elements }
 {
     match u32::try_from(index) {
-        Ok(index) => store.get_element(id, index),
+        Ok(index) => object.get_element(index),
         Err(_) => {
             // No value has so many elements, as their count tells.
-            let _ = store.element_count(id);
+            let _ = object.element_count();
             None
         }
     }

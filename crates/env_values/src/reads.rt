@@ -7,7 +7,7 @@ ghost use Rattle.env_values.specs.ValueSteps.{Comes, ComesOf};
 
 use crate::known::{
     array, bigint, boolean, element, equals_strictly, external, is_array_value, is_error_value,
-    known_text, number, object_like, text, value_of_handle,
+    known_text, lent_value, number, object_like, text, value_of_handle,
 };
 use crate::stop::Stop;
 use handle_scope::Scopes;
@@ -57,9 +57,9 @@ pub(crate) fn get_array_length(store: &Store, scopes: &Scopes, value: HandleId) 
     requires { HoldsLive store.now scopes.now }
     ensures comes { let heap = heap_of store.now scopes.now in (texts : ℕ) → Comes texts heap (Call.GetArrayLength value) result heap }
 {
-    let value = value_of_handle(store, scopes, value)?;
-    array(value.body)?;
-    Ok(Out::Unsigned(u64::from(store.element_count(value.id))))
+    let value = lent_value(store, scopes, value)?;
+    array(value.body())?;
+    Ok(Out::Unsigned(u64::from(value.element_count())))
 }
 
 /// `strict_equals`: numbers, bigints, booleans and strings are equal by content, and all else by identity.
@@ -88,10 +88,10 @@ pub(crate) fn has_named_property(
     requires { HoldsLive store.now scopes.now }
     ensures comes { let heap = heap_of store.now scopes.now in Comes texts heap (Call.HasNamedProperty object name) result heap }
 {
-    let object = value_of_handle(store, scopes, object)?;
+    let object = lent_value(store, scopes, object)?;
     known_text(name, texts)?;
-    object_like(object.body)?;
-    Ok(Out::Flag(store.get_prop(object.id, name).is_some()))
+    object_like(object.body())?;
+    Ok(Out::Flag(object.get_prop(name).is_some()))
 }
 
 /// `has_element`: whether an object has an element of the index. It has none past the greatest index.
@@ -104,7 +104,7 @@ pub(crate) fn has_element(
     requires { HoldsLive store.now scopes.now }
     ensures comes { let heap = heap_of store.now scopes.now in (texts : ℕ) → Comes texts heap (Call.HasElement object index) result heap }
 {
-    let object = value_of_handle(store, scopes, object)?;
-    object_like(object.body)?;
-    Ok(Out::Flag(element(store, object.id, index).is_some()))
+    let object = lent_value(store, scopes, object)?;
+    object_like(object.body())?;
+    Ok(Out::Flag(element(&object, index).is_some()))
 }

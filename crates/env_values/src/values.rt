@@ -5,7 +5,9 @@ ghost use Rattle.env_values.specs.KeepingHeaps.{CanGive, CanMake, KeepsScopes, K
 ghost use Rattle.env_values.specs.SeenValues.{heap_of};
 ghost use Rattle.env_values.specs.ValueSteps.{Comes};
 
-use crate::known::{element, known_text, object_like, or_undefined, text, value_of_handle};
+use crate::known::{
+    element, known_text, lent_value, object_like, or_undefined, text, value_of_handle,
+};
 use crate::makes::{give, give_new};
 use crate::stop::Stop;
 use handle_scope::Scopes;
@@ -76,10 +78,10 @@ pub(crate) fn get_named_property(
         Comes texts before (Call.GetNamedProperty object name) result (heap_of store.now scopes.new) }
     ensures keeps { KeepsScopes scopes.old store.now scopes.new }
 {
-    let object = value_of_handle(store, scopes, object)?;
+    let object = lent_value(store, scopes, object)?;
     known_text(name, texts)?;
-    object_like(object.body)?;
-    let value = or_undefined(store, store.get_prop(object.id, name));
+    object_like(object.body())?;
+    let value = or_undefined(store, object.get_prop(name));
     Ok(give(store, scopes, value)?)
 }
 
@@ -94,8 +96,8 @@ pub(crate) fn get_element(
     ensures comes { (texts : ℕ) → Comes texts (heap_of store.now scopes.old) (Call.GetElement object index) result (heap_of store.now scopes.new) }
     ensures keeps { KeepsScopes scopes.old store.now scopes.new }
 {
-    let object = value_of_handle(store, scopes, object)?;
-    object_like(object.body)?;
-    let value = or_undefined(store, element(store, object.id, index));
+    let object = lent_value(store, scopes, object)?;
+    object_like(object.body())?;
+    let value = or_undefined(store, element(&object, index));
     Ok(give(store, scopes, value)?)
 }

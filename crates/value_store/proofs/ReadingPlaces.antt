@@ -26,15 +26,17 @@ some-and (Some v) h = refl
 pub object-live : (s : StoreState) (n : ℕ) → IsObject s n → IsLive s n
 object-live s n h = some-and (value_of s n) h
 
--- what a live value names is live: the value of a property, an element, and so each child
+-- where what a value names is live, so is the value of a property, and an element
+module _ (s : StoreState) (v : Value) (live : All (IsLive s) (children v)) where
+  pub named-live : (name : ℕ) (r : Option ValueId) → option_map (λ w. w.0) r ≡ property_at name v.properties → IfSome r (λ w. IsLive s w.0)
+  named-live name None h = tt
+  named-live name (Some w) h = subst (λ (o : Option ℕ). IfSome o (IsLive s)) (sym h) (property-named (IsLive s) name v live)
+
+  pub indexed-live : (at : ℕ) (r : Option ValueId) → option_map (λ w. w.0) r ≡ element_at at v.elements → IfSome r (λ w. IsLive s w.0)
+  indexed-live at None h = tt
+  indexed-live at (Some w) h = subst (λ (o : Option ℕ). IfSome o (IsLive s)) (sym h) (element-named (IsLive s) at v live)
+
+-- each child of a live value is live
 module _ (s : StoreState) (sound : IsSoundStore s) (n : ℕ) (v : Value) (is : value_of s n ≡ Some v) where
-  pub property-live : (name : ℕ) (r : Option ValueId) → option_map (λ w. w.0) r ≡ property_at name v.properties → IfSome r (λ w. IsLive s w.0)
-  property-live name None h = tt
-  property-live name (Some w) h = subst (λ (o : Option ℕ). IfSome o (IsLive s)) (sym h) (property-named (IsLive s) name v (sound.closed n v is))
-
-  pub element-live : (at : ℕ) (r : Option ValueId) → option_map (λ w. w.0) r ≡ element_at at v.elements → IfSome r (λ w. IsLive s w.0)
-  element-live at None h = tt
-  element-live at (Some w) h = subst (λ (o : Option ℕ). IfSome o (IsLive s)) (sym h) (element-named (IsLive s) at v (sound.closed n v is))
-
   pub children-live : (ns : List ℕ) → HaveSameNumbers ns (children v) → All (IsLive s) ns
   children-live ns same = All-from_has (IsLive s) ns (λ m h. All-has (IsLive s) (children v) m (sound.closed n v is) (sym (same m) ∙ h))

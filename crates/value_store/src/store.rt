@@ -176,14 +176,6 @@ impl Store {
         record.value.set_prop(self.alloc, name, to)
     }
 
-    /// The value of a property, `None` exactly where the name is absent. Near constant time.
-    pub fn get_prop(&self, id: ValueId, name: TextNo) -> Option<ValueId>
-        ensures value { option_map (λ v. v.0) result ≡ property_at name.0 (properties_in self.now id.0) }
-        ensures live { IfSome result (λ v. IsLive self.now v.0) }
-    {
-        self.get(id)?.get_prop(name)
-    }
-
     /// Removes a property, and tells whether its name was there. The others keep their order.
     ///
     /// The time grows with the number of the value's properties.
@@ -197,27 +189,6 @@ impl Store {
         }
         let record = self.values.value_mut(id.0);
         record.value.remove_prop(name)
-    }
-
-    /// How many properties a value has. Constant time.
-    pub fn name_count(&self, id: ValueId) -> usize
-        ensures { result ≡ length (properties_in self.now id.0) }
-    {
-        match self.get(id) {
-            Some(value) => value.name_count(),
-            None => 0,
-        }
-    }
-
-    /// The name of a property, at a place in the order in which the names were first set. Constant time.
-    pub fn name_at(&self, id: ValueId, at: usize) -> TextNo
-        requires { at < length (properties_in self.now id.0) }
-        ensures { option_map (λ p. p.name) (slice_get (properties_in self.now id.0) at) ≡ Some result.0 }
-    {
-        match self.get(id) {
-            Some(value) => value.name_at(at),
-            None => unreachable!(),
-        }
     }
 
     /// Sets an element. What lies between the end and a later index is holes.
@@ -234,24 +205,6 @@ impl Store {
     {
         let record = self.values.value_mut(id.0);
         record.value.set_element(self.alloc, at, to)
-    }
-
-    /// The element of an index, `None` exactly at a hole or past the end. Near constant time.
-    pub fn get_element(&self, id: ValueId, at: u32) -> Option<ValueId>
-        ensures value { option_map (λ v. v.0) result ≡ element_at at (elements_in self.now id.0) }
-        ensures live { IfSome result (λ v. IsLive self.now v.0) }
-    {
-        self.get(id)?.get_element(at)
-    }
-
-    /// How many elements a value has, holes counted. Constant time.
-    pub fn element_count(&self, id: ValueId) -> u32
-        ensures { result ≡ length (elements_in self.now id.0) }
-    {
-        match self.get(id) {
-            Some(value) => value.element_count(),
-            None => 0,
-        }
     }
 
     /// The children of a value, each under a place from 0: first the values of its properties, then its elements. A hole is no child.

@@ -4,7 +4,7 @@ use Rattle.napi_types.specs.plain.Replies.{accepts}
 use Rattle.napi_types.specs.parts.Bodies.{is_object_like}
 use Rattle.napi_types.specs.parts.Heap.{handle_body}
 use Rattle.env_values.specs.SeenValues.{heap_of}
-use Rattle.env_values.proofs.HandleValues.{like-known, property-known, same-there}
+use Rattle.env_values.proofs.HandleValues.{like-lent, property-lent, same-there}
 use Rattle.env_values.proofs.reads.has_named_property.Goals as goal
 
 pub returns : goal.returns
@@ -13,11 +13,11 @@ returns c =
     let scopes = c.args.scopes.now in
     let k = c.in_ok-object.ensures.ok in
     let like : is_object_like (handle_body (heap_of s scopes) c.args.object.0) ≡ true =
-    like-known s scopes c.args.object.0 c.in_ok-object.object k c.in_ok-object_like.ensures.ok in
+    like-lent s scopes c.args.object.0 c.in_ok-object.object k (ap is_object_like (sym c.body.ensures) ∙ c.in_ok-object_like.ensures.ok) in
     record {
       comes = (
         rw (k.known, c.in_ok-known_text.ensures.ok, like) refl,
         ap (λ b. accepts (out.Flag b) (heap_of s scopes))
-            (ap is_some (property-known s scopes c.args.object.0 c.in_ok-object.object k c.args.name.0) ∙ same-there s _ _ c.get_prop.ensures.value ∙ sym c.is_some.ensures),
+            (ap is_some (property-lent s scopes c.args.object.0 c.in_ok-object.object k c.args.name.0) ∙ same-there s _ _ c.get_prop.ensures ∙ sym c.is_some.ensures),
       );
     }
