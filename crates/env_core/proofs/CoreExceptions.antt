@@ -3,6 +3,7 @@ use Rattle.std.proofs.Common.{◌≡◌, ℕ, ◌+◌, List, Bool, true, false, 
 use Rattle.std.specs.Option.{unwrap_or, option_or}
 use Rattle.napi_types.specs.declared.call.Call.{Call}
 use Rattle.napi_types.specs.declared.call.Call.TheVariants as call
+use Rattle.napi_types.specs.declared.entry.Out.{Out}
 use Rattle.napi_types.specs.declared.entry.Out.TheVariants as out
 use Rattle.napi_types.specs.declared.entry.Reply.{Reply}
 use Rattle.napi_types.specs.declared.ids.HandleId.{HandleId}
@@ -61,6 +62,12 @@ answers-in-time e new c r other h a =
 pub in-time : {E : Type 0} (e new : Environment) (c : Call) (r : Result Reply E) → is_calling c ≡ false → None ≡ moment_refusal e c → IfOk r (λ reply. AnswersInTime e c reply new) → IfOk r (λ reply. Answers e c reply new)
 in-time e new c (Ok r) other h a = answers-in-time e new c r other h a
 in-time e new c (Err x) other h a = tt
+
+-- the same where status and result of the reply are answered alone
+pub plain-in-time : {E : Type 0} (e new : Environment) (c : Call) (r : Result (Status × Out) E) → is_calling c ≡ false → None ≡ moment_refusal e c
+    → IfOk r (λ told. AnswersInTime e c (plain told.0 told.1) new) → IfOk r (λ told. Answers e c (plain told.0 told.1) new)
+plain-in-time e new c (Ok told) other h a = answers-in-time e new c (plain told.0 told.1) other h a
+plain-in-time e new c (Err x) other h a = tt
 
 -- one at a wrong moment is refused, and changes nothing
 pub out-of-time : (e : Environment) (c : Call) (s : Status) → is_calling c ≡ false → Some s ≡ moment_refusal e c → Answers e c (plain s out.Nothing) e

@@ -6,9 +6,10 @@ use Rattle.std.proofs.lemmas.List.Elements.{All-nil, All-cons, All-head, All-tai
 use Rattle.napi_types.specs.declared.call.Call.{Call}
 use Rattle.napi_types.specs.declared.call.Call.TheVariants as call
 use Rattle.napi_types.specs.declared.status.Status.{Status}
+use Rattle.napi_types.specs.declared.entry.Out.{Out}
 use Rattle.napi_types.specs.declared.entry.Reply.{Reply}
 use Rattle.napi_types.specs.plain.CallKinds.{is_value_call}
-use Rattle.napi_types.specs.plain.Replies.{Answer}
+use Rattle.napi_types.specs.plain.Replies.{Answer, plain}
 use Rattle.napi_types.specs.parts.Attachments.{Attachments}
 use Rattle.napi_types.specs.parts.Book.{Book}
 use Rattle.napi_types.specs.parts.Frames.{caller_of}
@@ -31,7 +32,7 @@ use Rattle.env_core.proofs.Attaching.{attachments-kept}
 use Rattle.env_core.specs.FunctionRooting.{function_roots_seen, RootsAreLive}
 use Rattle.env_core.proofs.FunctionRooting.{roots-kept}
 use Rattle.env_core.specs.Referring.{seen_reference, references_seen, RefersToLive}
-use Rattle.env_core.specs.State.{pending_seen, AnswersInTime, MakesNoDuty}
+use Rattle.env_core.specs.State.{pending_seen, AnswersInTime}
 
 accepted-any : (addon : ℕ) (heap : Heap) (c : Call) (n : ℕ) → is_value_call c ≡ true → addon_effect addon heap c 0 ≡ addon_effect addon heap c n
 accepted-any addon heap call.OpenHandleScope n h = cc
@@ -45,20 +46,6 @@ by-any addon heap c n (Some s) h = refl
 -- the number that a call may be given is not read
 pub answer-any : (texts addon : ℕ) (heap : Heap) (c : Call) (n : ℕ) → is_value_call c ≡ true → heap_answer texts addon heap c 0 ≡ heap_answer texts addon heap c n
 answer-any texts addon heap c n h = by-any addon heap c n (refusal_in texts heap c) h
-
-accepted-plain : (addon : ℕ) (heap : Heap) (c : Call) (n : ℕ) → MakesNoDuty (addon_effect addon heap c n).reply
-accepted-plain addon heap call.OpenHandleScope n = record { dropped = refl; made = refl }
-accepted-plain addon heap _ n = record { dropped = refl; made = refl }
-
-by-plain : (addon : ℕ) (heap : Heap) (c : Call) (n : ℕ) (s : Option Status) → MakesNoDuty (heap_answer_unless addon heap c n s).reply
-by-plain addon heap c n None = accepted-plain addon heap c n
-by-plain addon heap c n (Some s) = record { dropped = refl; made = refl }
-
--- no duty is withdrawn or made
-pub answers-plain : {E : Type 0} (texts addon : ℕ) (heap : Heap) (c : Call) (n : ℕ) (r : Result Reply E) → IfOk r (λ reply. reply ≡ (heap_answer texts addon heap c n).reply)
-    → IfOk r MakesNoDuty
-answers-plain texts addon heap c n (Ok reply) e = subst MakesNoDuty (sym e) (by-plain addon heap c n (refusal_in texts heap c))
-answers-plain texts addon heap c n (Err x) e = tt
 
 accepted-fresh : (e : Environment) (addon : ℕ) (heap : Heap) (c : Call) (n : ℕ) → is_value_call c ≡ true → is_fresh_result e (addon_effect addon heap c n).reply.out ≡ true
 accepted-fresh e addon heap call.OpenHandleScope n h = cc
@@ -91,11 +78,12 @@ pub timely-value : (e : Environment) (c : Call) → is_value_call c ≡ true →
 timely-value e c h = ap (option_or (refusal_in e.texts e.heap c)) (no-group e c h) ∙ option_or-none (refusal_in e.texts e.heap c)
 
 -- the reply of such a call, and the heap that it leaves, are the machine's answer in the environment
-pub value-answers : {E : Type 0} (e : Environment) (addon : ℕ) (c : Call) (heap : Heap) (result : Result Reply E) → is_value_call c ≡ true → addon ≡ caller_of e.frames
-    → IfOk result (λ reply. reply ≡ (heap_answer e.texts addon e.heap c 0).reply) → OnOk result (heap ≡ (heap_answer e.texts addon e.heap c 0).after)
-    → IfOk result (λ reply. AnswersInTime e c reply (with_heap e heap))
+pub value-answers : {E : Type 0} (e : Environment) (addon : ℕ) (c : Call) (heap : Heap) (result : Result (Status × Out) E) → is_value_call c ≡ true → addon ≡ caller_of e.frames
+    → IfOk result (λ told. plain told.0 told.1 ≡ (heap_answer e.texts addon e.heap c 0).reply) → OnOk result (heap ≡ (heap_answer e.texts addon e.heap c 0).after)
+    → IfOk result (λ told. AnswersInTime e c (plain told.0 told.1) (with_heap e heap))
 value-answers e addon c heap (Err x) h caller replies leaves = tt
-value-answers e addon c heap (Ok r) h caller replies leaves =
+value-answers e addon c heap (Ok told) h caller replies leaves =
+    let r : Reply = plain told.0 told.1 in
     let n = number_of r.out in
     let any : heap_answer e.texts addon e.heap c 0 ≡ heap_answer e.texts (caller_of e.frames) e.heap c n =
     answer-any e.texts addon e.heap c n h ∙ ap (λ a. heap_answer e.texts a e.heap c n) caller in

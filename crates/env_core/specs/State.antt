@@ -99,11 +99,6 @@ pub record FindsNoMemory (old : Environment) (c : Call) (refused : Option Status
   pub grows : IsTrue (is_growing c)
   pub unrefused : refused ≡ None
 
--- it neither withdraws nor makes a duty, as no call on values does
-pub record MakesNoDuty (r : Reply) : Type 0 where
-  pub dropped : r.dropped ≡ None
-  pub made : r.made ≡ None
-
 -- CALLS OF FUNCTIONS
 -- a call that is refused answers at once, as every other call does
 pub record RefusesCall (old : Environment) (c : Call) (x : Entry) (new : Environment) : Type 0 where

@@ -225,8 +225,9 @@ impl EnvCore {
         }
         let depth = self.state.depth();
         match &self.state.call_on_values(call) {
-            Ok(reply) => {
-                self.journal.push_call(depth, step, call, reply);
+            Ok((status, out)) => {
+                self.journal
+                    .push_plain_call(depth, step, call, *status, out);
                 Ok(())
             }
             Err(NoMemory) => {

@@ -1,9 +1,12 @@
 //! The journal: the entries of the environment's local events, and the places that are promised to further ones.
 ghost use Rattle.std.specs.Prelude.{◌≡◌, ℕ, ◌+◌, ◌-◌, ◌<◌, ◌≤◌, [], ◌∷◌, ◌++◌, length, min, IfOk, OnOk, OnErr, IfErr, ◌↔◌, ◌⊎◌, option_copied};
+ghost use Rattle.napi_types.specs.plain.Replies.{plain as plain_reply};
 ghost use Rattle.napi_types.specs.plain.Room.{first_places, most_entries};
 ghost use Rattle.env_core.specs.Journal.{Exceeds, told_entry, last_reply};
 
-use napi_types::{Actor, Call, Entry, Listed, Local, LocalList, NoMemory, Reply, Status, What};
+use napi_types::{
+    Actor, Call, Entry, Listed, Local, LocalList, NoMemory, Out, Reply, Status, What,
+};
 use std::alloc::Global;
 use std::marker::Model;
 
@@ -119,6 +122,29 @@ impl Journal {
                 step,
                 what: What::Call(*call),
                 reply: *reply,
+                given: None,
+            },
+        });
+        self.promised -= 1;
+    }
+
+    /// The same for a call whose reply has this status and this result, and neither withdraws nor makes a duty.
+    #[inline(never)]
+    pub fn push_plain_call(&mut self, depth: u32, step: u32, call: &Call, status: Status, out: &Out)
+        requires { 0 < self.old.promised }
+        ensures { self.new ≡ record self.old {
+          entries = self.old.entries ++ record { at = self.old.position; entry = told_entry depth step call.now (plain_reply status out.now) } ∷ [];
+          promised = self.old.promised - 1;
+        } }
+    {
+        self.entries.push_reserved(Local {
+            at: self.position,
+            entry: Entry {
+                actor: Actor::Env,
+                depth,
+                step,
+                what: What::Call(*call),
+                reply: Reply::plain(status, *out),
                 given: None,
             },
         });

@@ -7,6 +7,7 @@ ghost use Rattle.napi_types.specs.plain.Entries.{host_entry as entry_of, host_to
 ghost use Rattle.napi_types.specs.plain.Guards.{is_shared};
 ghost use Rattle.napi_types.specs.plain.Lists.{head};
 ghost use Rattle.napi_types.specs.plain.Numbers.{napi_version};
+ghost use Rattle.napi_types.specs.plain.Replies.{plain as plain_reply};
 ghost use Rattle.napi_types.specs.parts.Frames.{caller_of, asks_made, most_asks};
 ghost use Rattle.napi_types.specs.parts.NamedNumbers.{is_known};
 ghost use Rattle.napi_types.specs.parts.Properties.{most_names};
@@ -19,7 +20,7 @@ ghost use Rattle.napi_types.specs.environment.Registering.{finalizer_if};
 ghost use Rattle.env_core.specs.Standing.{machine_frame};
 ghost use Rattle.finalizer_queue.specs.TicketRows.{registration_of};
 ghost use Rattle.env_core.specs.Core.{next_init};
-ghost use Rattle.env_core.specs.State.{HasNumbersFor, Calls, Answers, AnswersInTime, FindsNoMemory, MakesNoDuty, opening_call, closing_call};
+ghost use Rattle.env_core.specs.State.{HasNumbersFor, Calls, Answers, AnswersInTime, FindsNoMemory, opening_call, closing_call};
 
 mod attachments;
 mod calling;
@@ -197,21 +198,21 @@ impl State {
         Ok(reply)
     }
 
-    /// A call of the innermost frame on values, properties or elements: what it replies. Its status is noted and its ask is counted.
-    pub fn call_on_values(&mut self, call: &Call) -> Result<Reply, NoMemory>
+    /// A call of the innermost frame on values, properties or elements: the status and the result of its reply, which neither withdraws nor makes a
+    /// duty. The status is noted and the ask is counted.
+    pub fn call_on_values(&mut self, call: &Call) -> Result<(Status, Out), NoMemory>
         requires standing { self.old.frames ≢ [] }
         requires at_once { is_calling call.now ≡ false }
         requires value_call { is_value_call call.now ≡ true }
         requires within { asks_made self.old.frames < most_asks }
         requires numbers { HasNumbersFor self.old }
         requires hooked { IsHooked self.old }
-        ensures ok { IfOk result (λ reply. Calls self.old call.now (call_entry self.old call.now reply) self.new) }
+        ensures ok { IfOk result (λ told. Calls self.old call.now (call_entry self.old call.now (plain_reply told.0 told.1)) self.new) }
         ensures stopped { OnErr result (FindsNoMemory self.old call.now (early_refusal self.old call.now) self.new) }
-        ensures plain { IfOk result (λ reply. MakesNoDuty reply) }
     {
-        let reply = self.answer_on_values(call)?;
-        self.note(call, reply.status);
-        Ok(reply)
+        let (status, out) = self.answer_on_values(call)?;
+        self.note(call, status);
+        Ok((status, out))
     }
 
     /// The addon whose init frame is next.
@@ -257,18 +258,17 @@ impl State {
         }
     }
 
-    /// What a call on values, properties or elements answers, refused or accepted.
-    fn answer_on_values(&mut self, call: &Call) -> Result<Reply, NoMemory>
+    /// What a call on values, properties or elements answers, refused or accepted: its status and its result.
+    fn answer_on_values(&mut self, call: &Call) -> Result<(Status, Out), NoMemory>
         requires standing { self.old.frames ≢ [] }
         requires at_once { is_calling call.now ≡ false }
         requires value_call { is_value_call call.now ≡ true }
         requires numbers { HasNumbersFor self.old }
-        ensures ok { IfOk result (λ reply. Answers self.old call.now reply self.new) }
+        ensures ok { IfOk result (λ told. Answers self.old call.now (plain_reply told.0 told.1) self.new) }
         ensures stopped { OnErr result (FindsNoMemory self.old call.now (early_refusal self.old call.now) self.new) }
-        ensures plain { IfOk result (λ reply. MakesNoDuty reply) }
     {
         match self.untimely(call) {
-            Some(status) => Ok(Reply::plain(status, Out::Nothing)),
+            Some(status) => Ok((status, Out::Nothing)),
             None => self.value_call(call),
         }
     }
@@ -371,16 +371,15 @@ impl State {
         }
     }
 
-    /// A call on values, properties or elements.
+    /// A call on values, properties or elements that comes at a right moment: its status and its result.
     #[tactic(auto, using(env_values::proofs::Numbering::numbers_for_any))]
-    fn value_call(&mut self, call: &Call) -> Result<Reply, NoMemory>
+    fn value_call(&mut self, call: &Call) -> Result<(Status, Out), NoMemory>
         requires standing { self.old.frames ≢ [] }
         requires value_call { is_value_call call.now ≡ true }
         requires values { self.old.heap.made + most_names + 8 < 2 ^ 48 }
         requires handles { self.old.heap.handles < 2 ^ 62 }
-        ensures ok { IfOk result (λ reply. AnswersInTime self.old call.now reply self.new) }
+        ensures ok { IfOk result (λ told. AnswersInTime self.old call.now (plain_reply told.0 told.1) self.new) }
         ensures stopped { OnErr result (FindsNoMemory self.old call.now (timely_refusal self.old call.now) self.new) }
-        ensures plain { IfOk result (λ reply. MakesNoDuty reply) }
     {
         let addon = self.caller();
         value_step(

@@ -2,6 +2,7 @@
 ghost use Rattle.std.specs.Prelude.{◌≡◌, ◌≢◌, ◌+◌, ◌<◌, ◌^◌, true, cond, [], None, IsTrue, IfOk, OnOk, OnErr};
 ghost use Rattle.napi_types.specs.plain.CallKinds.{is_creating, is_value_call};
 ghost use Rattle.napi_types.specs.plain.Guards.{is_growing};
+ghost use Rattle.napi_types.specs.plain.Replies.{plain as plain_reply};
 ghost use Rattle.napi_types.specs.parts.HeapCalls.{heap_answer};
 ghost use Rattle.napi_types.specs.parts.HeapRefusals.{refusal_in};
 ghost use Rattle.napi_types.specs.parts.Values.{true_value, false_value};
@@ -20,7 +21,7 @@ use crate::values::{
     create_int64, create_string_utf8, create_symbol, get_element, get_named_property,
 };
 use handle_scope::Scopes;
-use napi_types::{Body, Call, NoMemory, Out, Reply, Status};
+use napi_types::{Body, Call, NoMemory, Out, Status};
 use std::alloc::Global;
 use value_store::Store;
 
@@ -144,13 +145,13 @@ pub fn value_step(
     texts: u32,
     addon: u32,
     call: &Call,
-) -> Result<Reply, NoMemory>
+) -> Result<(Status, Out), NoMemory>
     requires value_call { is_value_call call.now ≡ true }
     requires standing { scopes.old.frames ≢ [] }
     requires live { HoldsLive store.old scopes.old }
     requires values { HasNumbersLeft store.old }
     requires handles { scopes.old.handles < 2 ^ 62 }
-    ensures reply { IfOk result (λ reply. reply ≡ (heap_answer texts addon (heap_of store.old scopes.old) call.now 0).reply) }
+    ensures reply { IfOk result (λ told. plain_reply told.0 told.1 ≡ (heap_answer texts addon (heap_of store.old scopes.old) call.now 0).reply) }
     ensures after { OnOk result (heap_of store.new scopes.new ≡ (heap_answer texts addon (heap_of store.old scopes.old) call.now 0).after) }
     ensures live { HoldsLive store.new scopes.new }
     ensures calls { scopes.new.by_call ≡ scopes.old.by_call }
@@ -161,10 +162,9 @@ pub fn value_step(
     ensures growing { OnErr result (IsTrue (is_growing call.now)) }
     ensures unrefused { OnErr result (refusal_in texts (heap_of store.old scopes.old) call.now ≡ None) }
 {
-    let (status, out) = match outcome(alloc, store, scopes, texts, addon, call) {
-        Ok(out) => (Status::Ok, out),
-        Err(Stop::Refused(status)) => (status, Out::Nothing),
-        Err(Stop::NoMemory) => return Err(NoMemory),
-    };
-    Ok(Reply::plain(status, out))
+    match outcome(alloc, store, scopes, texts, addon, call) {
+        Ok(out) => Ok((Status::Ok, out)),
+        Err(Stop::Refused(status)) => Ok((status, Out::Nothing)),
+        Err(Stop::NoMemory) => Err(NoMemory),
+    }
 }

@@ -4,7 +4,7 @@ use Rattle.env_core.specs.contracts.state.State.{the_view}
 use Rattle.env_values.specs.SeenValues.{heap_of}
 use Rattle.env_core.proofs.Attaching.{attached-kept, attachments-kept}
 use Rattle.env_core.proofs.FunctionRooting.{roots-live, roots-kept}
-use Rattle.env_core.proofs.ValueAnswers.{value-answers, answers-plain, value-frames, pending-live, pending-kept, referred-live, references-kept, stopped-same}
+use Rattle.env_core.proofs.ValueAnswers.{value-answers, value-frames, pending-live, pending-kept, referred-live, references-kept, stopped-same}
 use Rattle.env_core.proofs.Unrefused.{value-unrefused, stopped}
 use Rattle.env_core.proofs.state.State.value_call.Goals as goal
 
@@ -47,8 +47,3 @@ returns-clause-stopped c =
     c.self.invariant.0.referred c.self.invariant.0.rooted c.self.invariant.1 c.self.invariant.0.pending k.ensures.err)
     k.ensures.growing
     (value-unrefused (the_view s) c.args.call.now k.result c.requires.value_call k.ensures.unrefused))
-
-pub returns-clause-plain : goal.returns-clause-plain
-returns-clause-plain c =
-    let s = c.self.inside in
-    answers-plain s.texts c.caller-addon.result (heap_of s.store s.scopes) c.args.call.now 0 c.value_step.result c.value_step.ensures.reply
