@@ -1,0 +1,17 @@
+use Rattle.napi_types.specs.parts.Attachments.{left_on, hangs_on}
+use Rattle.napi_types.specs.parts.Book.{made_due}
+use Rattle.wrap_tag.specs.Wraps.{is_one_of}
+use Rattle.env_registry.proofs.Keeping.{given-freed, kept-left, kept-moved}
+use Rattle.env_registry.proofs.registry.Registry.gone_all.Goals as goal
+
+pub gone_all-requires : goal.gone_all-requires
+gone_all-requires c =
+    let s = c.self.inside in
+    given-freed s.wraps.attachments s.book.book (is_one_of c.args.values.now) c.self.invariant
+
+pub invariant_of-self : goal.invariant_of-self
+invariant_of-self c =
+    let s = c.self.inside in
+    let freed = is_one_of c.args.values.now in
+    rw (c.gone_all.ensures.forgotten, c.gone_all.ensures.due)
+    (kept-moved (left_on freed s.wraps.attachments) s.book.book made_due (hangs_on freed s.wraps.attachments) (kept-left s.wraps.attachments s.book.book freed c.self.invariant))

@@ -1,0 +1,34 @@
+-- The registry as its callers see it.
+use Rattle.std.specs.Prelude.{◌≡◌, ◌≢◌, ℕ, ◌≤◌, [], length, replicate, None, IfSome}
+use Rattle.std.specs.List.{All}
+use Rattle.napi_types.specs.declared.entry.Cause.TheVariants as cause
+use Rattle.napi_types.specs.plain.Lists.{as_map}
+use Rattle.napi_types.specs.parts.Attachments.{Attachments, no_attachments}
+use Rattle.napi_types.specs.parts.Book.{Book}
+use Rattle.napi_types.specs.environment.Registry.{Registry}
+
+-- the parts, and for how many attachments to values and for how many tickets more there is the memory
+pub record KeptRegistry : Type 0 where
+  pub parts : Registry
+  pub places : ℕ
+  pub slips : ℕ
+
+-- the parts before anything is registered, with a place for the instance data of each of so many addons
+abbrev pub new_parts : ℕ → Registry
+new_parts addons = record { attachments = no_attachments; book = []; hooks = []; instances = replicate addons None }
+
+-- the book gave the ticket
+abbrev pub IsGiven : Book → ℕ → Type 0
+IsGiven book ticket = (1 ≤ ticket) × (ticket ≤ length book)
+
+-- a value has one wrap and one tag at most
+pub record AreOnce (a : Attachments) : Type 0 where
+  pub wraps : as_map (λ w. w.value) a.wraps ≡ a.wraps
+  pub tags : as_map (λ t. t.value) a.tags ≡ a.tags
+
+-- a value has one wrap and one tag at most, the book gave each ticket that is attached, and what is registered is no frame that a call begins
+pub record IsKept (a : Attachments) (book : Book) : Type 0 where
+  pub once : AreOnce a
+  pub given_with_wraps : All (λ w. IfSome w.ticket (IsGiven book)) a.wraps
+  pub given : All (λ t. IsGiven book t.ticket) a.tickets
+  pub uncalled : All (λ r. r.cause ≢ cause.Call) book

@@ -1,0 +1,4 @@
+pub mod Beginning
+pub mod Instancing
+pub mod KeptRegistry
+pub mod Registering

@@ -1,0 +1,65 @@
+//! The registry of an environment.
+ghost use Rattle.std.specs.Prelude.{◌≡◌, IfOk};
+ghost use Rattle.env_registry.specs.KeptRegistry.{new_parts, AreOnce};
+
+mod attached;
+mod hooks;
+mod instances;
+mod tickets;
+
+use crate::instances::InstanceTable;
+use cleanup_hooks::Hooks;
+use finalizer_queue::Book;
+pub use instances::Replaced;
+use napi_types::NoMemory;
+use std::alloc::Global;
+use std::marker::Model;
+use wrap_tag::Wraps;
+
+/// What is registered with an environment, and what is attached to its values. What is attached stays until it is taken off or its
+/// value is freed, a hook until it begins or is removed, and a ticket for ever.
+#[derive(Drop)]
+pub struct Registry {
+    wraps: Wraps,
+    book: Book,
+    hooks: Hooks,
+    instances: InstanceTable,
+}
+
+impl Model for Registry {
+    ghost use Rattle.env_registry.specs.KeptRegistry.{KeptRegistry, IsKept};
+
+    ghost Value = { KeptRegistry };
+
+    ghost view = { λ r. record {
+      parts = record { attachments = r.wraps.attachments; book = r.book.book; hooks = r.hooks; instances = r.instances };
+      places = r.wraps.spare;
+      slips = r.book.spare;
+    } };
+
+    ghost invariant = { λ r. IsKept r.wraps.attachments r.book.book };
+}
+
+impl Registry {
+    /// Nothing is registered, and nothing attached. There is a place for the instance data of each of so many addons.
+    pub fn new(alloc: Global, addons: u32) -> Result<Registry, NoMemory>
+        ensures { IfOk result (λ registry. registry.parts ≡ new_parts addons) }
+    {
+        let wraps = Wraps::new(alloc)?;
+        let book = Book::new(alloc)?;
+        let instances = InstanceTable::new(alloc, addons)?;
+        Ok(Registry {
+            wraps,
+            book,
+            hooks: Hooks::new(alloc),
+            instances,
+        })
+    }
+
+    /// No effect. It recalls what holds of every registry.
+    pub fn recall(&self)
+        ensures { AreOnce self.now.parts.attachments }
+    {
+        let _ = self.book.has_due();
+    }
+}
