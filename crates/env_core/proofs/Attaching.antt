@@ -1,5 +1,5 @@
 -- What is attached to values as the machine sees it, and what the calls on it answer.
-use Rattle.std.proofs.Common.{◌≡◌, ◌∙◌, ℕ, ◌==◌, ◌&&◌, ◌||◌, Bool, true, false, not, List, [], ◌∷◌, map, get_or, Option, Some, None, is_some, IsSome, IfSome, option_map, refl, ap, sym}
+use Rattle.std.proofs.Common.{◌≡◌, ◌∙◌, ℕ, ◌==◌, ◌&&◌, ◌||◌, Bool, true, false, not, List, [], ◌∷◌, map, get_or, Option, Some, None, is_some, IsSome, option_map, refl, ap, sym}
 use Rattle.std.specs.List.{All}
 use Rattle.std.specs.Option.{unwrap_or, option_or}
 use Rattle.std.proofs.lemmas.List.Elements.{All-head, All-tail, All-nil, All-filter}
@@ -12,7 +12,6 @@ use Rattle.napi_types.specs.declared.status.Status.TheVariants as status
 use Rattle.napi_types.specs.plain.Lists.{as_map, when, unless}
 use Rattle.napi_types.specs.plain.Replies.{accepts, plain}
 use Rattle.napi_types.specs.parts.Attachments.{Wrapped, Tagged, Attached, Attachments, no_attachments, wrap_of, tag_of, is_wrapped, is_tagged, wrap_payload, has_tag, with_wrap, without_wrap, with_tag}
-use Rattle.napi_types.specs.parts.Book.{Book}
 use Rattle.napi_types.specs.parts.Kinds.{expects}
 use Rattle.napi_types.specs.parts.Graph.{StoreState, IsSoundStore, IsLive, value_of, number_in}
 use Rattle.napi_types.specs.parts.Heap.{handle_value}
@@ -20,13 +19,14 @@ use Rattle.napi_types.specs.parts.Scopes.{gives}
 use Rattle.napi_types.specs.parts.Values.{Value}
 use Rattle.napi_types.specs.environment.Environment.{Environment}
 use Rattle.napi_types.specs.environment.Refusals.{timely_refusal}
-use Rattle.napi_types.proofs.plain.Found.{same-tells, same-self, has-found, as_map-with_record, as_map-kept}
+use Rattle.napi_types.proofs.plain.Found.{same-tells, same-self, has-found}
 use Rattle.napi_types.proofs.plain.Maps.{All-with_record}
+use Rattle.env_registry.specs.KeptRegistry.{AreOnce}
 use Rattle.env_values.specs.SeenValues.{KeepsValues}
 use Rattle.env_core.specs.declared.handles.Attachable.{Attachable}
 use Rattle.env_core.specs.declared.handles.Attachable.TheVariants as takes
-use Rattle.env_core.specs.Attaching.{seen_wrap, seen_tag, seen_attached, attachments_seen, IsGiven, IsAttached, is_accepted, target_refusal}
-use Rattle.env_core.specs.RegisteringWants.{wants_alone}
+use Rattle.env_core.specs.Attaching.{seen_wrap, seen_tag, seen_attached, attachments_seen, AreAttachedToLive, is_accepted, target_refusal}
+use Rattle.env_core.specs.Referring.{wants_alone}
 use Rattle.env_core.specs.State.{AnswersInTime}
 use Rattle.env_core.proofs.Referring.{refused-timely, accepted-timely}
 use Rattle.env_core.proofs.Renaming.{same-renamed, found-seen, has-seen, seen-with_record, seen-filter}
@@ -69,66 +69,46 @@ module _ (s : StoreState) (sound : IsSoundStore s) where
       (λ k w inside. ap not (same-renamed (λ (w : Wrapped). w.value) (number_in s) (seen_wrap s) (λ w. refl) (IsLive s) (number-apart s sound) (get_or a.wraps k w).value v (all k w inside) live)) (λ k w inside passes. refl))
 
 -- WHAT HOLDS
-pub attached-new : (s : StoreState) → IsAttached s no_attachments []
+pub attached-new : (s : StoreState) → AreAttachedToLive s no_attachments
 attached-new s = record {
   wraps = All-nil (λ (w : Wrapped). IsLive s w.value);
   tags = All-nil (λ (t : Tagged). IsLive s t.value);
   tickets = All-nil (λ (t : Attached). IsLive s t.value);
-  wrapped_once = refl;
-  tagged_once = refl;
-  given_with_wraps = All-nil (λ (w : Wrapped). IfSome w.ticket (IsGiven []));
-  given = All-nil (λ (t : Attached). IsGiven [] t.ticket);
 }
 
-pub attached-with_wrap : (s : StoreState) (a : Attachments) (book : Book) (v payload : ℕ) (ticket : Option ℕ) → IfSome ticket (IsGiven book) → IsAttached s a book → IsLive s v
-    → IsAttached s (with_wrap v payload ticket a) book
-attached-with_wrap s a book v payload ticket given i live =
+pub attached-with_wrap : (s : StoreState) (a : Attachments) (v payload : ℕ) (ticket : Option ℕ) → AreAttachedToLive s a → IsLive s v
+    → AreAttachedToLive s (with_wrap v payload ticket a)
+attached-with_wrap s a v payload ticket i live =
     let wrap : Wrapped = record { value = v; payload = payload; ticket = ticket } in
     record {
       wraps = All-with_record (λ (w : Wrapped). w.value) wrap (λ w. IsLive s w.value) a.wraps live i.wraps;
       tags = i.tags;
       tickets = i.tickets;
-      wrapped_once = as_map-with_record (λ (w : Wrapped). w.value) wrap a.wraps i.wrapped_once;
-      tagged_once = i.tagged_once;
-      given_with_wraps = All-with_record (λ (w : Wrapped). w.value) wrap (λ w. IfSome w.ticket (IsGiven book)) a.wraps given i.given_with_wraps;
-      given = i.given;
     }
 
-pub attached-without_wrap : (s : StoreState) (a : Attachments) (book : Book) (v : ℕ) → IsAttached s a book → IsAttached s (without_wrap v a) book
-attached-without_wrap s a book v i = record {
+pub attached-without_wrap : (s : StoreState) (a : Attachments) (v : ℕ) → AreAttachedToLive s a → AreAttachedToLive s (without_wrap v a)
+attached-without_wrap s a v i = record {
   wraps = All-filter (λ (w : Wrapped). not (w.value == v)) (λ w. IsLive s w.value) a.wraps i.wraps;
   tags = i.tags;
   tickets = i.tickets;
-  wrapped_once = as_map-kept (λ (w : Wrapped). w.value) (λ w. not (w.value == v)) a.wraps i.wrapped_once;
-  tagged_once = i.tagged_once;
-  given_with_wraps = All-filter (λ (w : Wrapped). not (w.value == v)) (λ w. IfSome w.ticket (IsGiven book)) a.wraps i.given_with_wraps;
-  given = i.given;
 }
 
-pub attached-with_tag : (s : StoreState) (a : Attachments) (book : Book) (v lower upper : ℕ) → IsAttached s a book → IsLive s v → IsAttached s (with_tag v lower upper a) book
-attached-with_tag s a book v lower upper i live =
+pub attached-with_tag : (s : StoreState) (a : Attachments) (v lower upper : ℕ) → AreAttachedToLive s a → IsLive s v → AreAttachedToLive s (with_tag v lower upper a)
+attached-with_tag s a v lower upper i live =
     let tag : Tagged = record { value = v; lower = lower; upper = upper } in
     record {
       wraps = i.wraps;
       tags = All-with_record (λ (t : Tagged). t.value) tag (λ t. IsLive s t.value) a.tags live i.tags;
       tickets = i.tickets;
-      wrapped_once = i.wrapped_once;
-      tagged_once = as_map-with_record (λ (t : Tagged). t.value) tag a.tags i.tagged_once;
-      given_with_wraps = i.given_with_wraps;
-      given = i.given;
     }
 
 -- VALUES THAT STAY
 module _ (s t : StoreState) (kept : KeepsValues s t) where
-  pub attached-kept : (a : Attachments) (book : Book) → IsAttached s a book → IsAttached t a book
-  attached-kept a book i = record {
+  pub attached-kept : (a : Attachments) → AreAttachedToLive s a → AreAttachedToLive t a
+  attached-kept a i = record {
     wraps = λ k w inside. kept.live (get_or a.wraps k w).value (i.wraps k w inside);
     tags = λ k w inside. kept.live (get_or a.tags k w).value (i.tags k w inside);
     tickets = λ k w inside. kept.live (get_or a.tickets k w).value (i.tickets k w inside);
-    wrapped_once = i.wrapped_once;
-    tagged_once = i.tagged_once;
-    given_with_wraps = i.given_with_wraps;
-    given = i.given;
   }
 
   listed-kept : {A : Type 0} (value : A → ℕ) (see new : A → A) (xs : List A) → ((x : A) → number_in t (value x) ≡ number_in s (value x) → new x ≡ see x) → All (λ x. IsLive s (value x)) xs
@@ -138,8 +118,8 @@ module _ (s t : StoreState) (kept : KeepsValues s t) where
       ap (λ y. y ∷ map new xs) (same x (kept.numbers (value x) (All-head (λ y. IsLive s (value y)) x xs live)))
       ∙ ap (λ ys. see x ∷ ys) (listed-kept value see new xs same (All-tail (λ y. IsLive s (value y)) x xs live))
 
-  pub attachments-kept : (a : Attachments) (book : Book) → IsAttached s a book → attachments_seen t a ≡ attachments_seen s a
-  attachments-kept a book i =
+  pub attachments-kept : (a : Attachments) → AreAttachedToLive s a → attachments_seen t a ≡ attachments_seen s a
+  attachments-kept a i =
       let wraps : map (seen_wrap t) a.wraps ≡ map (seen_wrap s) a.wraps =
       listed-kept (λ (w : Wrapped). w.value) (seen_wrap s) (seen_wrap t) a.wraps (λ w same. ap (λ n. record w { value = n }) same) i.wraps in
       let tags : map (seen_tag t) a.tags ≡ map (seen_tag s) a.tags =
@@ -240,7 +220,7 @@ tag-other low high lower upper b o is differs told = told ∙ by (low == lower) 
     by false at = refl
 
 -- the answers of the calls, where the handle's value is this one
-module _ (e : Environment) (s : StoreState) (sound : IsSoundStore s) (a : Attachments) (book : Book) (i : IsAttached s a book) (h : HandleId) (v : ℕ) (live : IsLive s v)
+module _ (e : Environment) (s : StoreState) (sound : IsSoundStore s) (a : Attachments) (i : AreAttachedToLive s a) (h : HandleId) (v : ℕ) (live : IsLive s v)
     (number : number_in s v ≡ handle_value e.heap h.0) where
   pub seen-is_wrapped : (o : Option ℕ) → o ≡ option_map (λ (w : Wrapped). w.payload) (wrap_of a v) → wrapped_here (attaching e s a) h ≡ is_some o
   seen-is_wrapped o is =
@@ -358,13 +338,13 @@ module _ (e : Environment) (s : StoreState) (sound : IsSoundStore s) (a : Attach
       (when (is_tagged (attachments_seen s a) (handle_value e.heap h.0)) status.InvalidArg) (timely-tag (attaching e s a) h lower upper) taken
       ∙ ap (λ b. when b status.InvalidArg) (seen-is_tagged o is ∙ absent)
 
-  pub tag-answers : (lower upper : ℕ) (new : Attachments) → None ≡ option_map halves (tag_of a v) → new ≡ with_tag v lower upper a
+  pub tag-answers : (lower upper : ℕ) → AreOnce a → None ≡ option_map halves (tag_of a v)
       → timely_refusal (attaching e s a) (call.TypeTagObject h lower upper) ≡ None
-      → AnswersInTime (attaching e s a) (call.TypeTagObject h lower upper) (plain status.Ok out.Nothing) (attaching e s new)
-  tag-answers lower upper new free is none =
-      accepted-timely (attaching e s a) (attaching e s new) (call.TypeTagObject h lower upper) out.Nothing none refl
+      → AnswersInTime (attaching e s a) (call.TypeTagObject h lower upper) (plain status.Ok out.Nothing) (attaching e s (with_tag v lower upper a))
+  tag-answers lower upper once free none =
+      accepted-timely (attaching e s a) (attaching e s (with_tag v lower upper a)) (call.TypeTagObject h lower upper) out.Nothing none refl
       (ap (λ x. accepts out.Nothing (record e { attachments = x }))
-      (ap (λ n. with_tag n lower upper (attachments_seen s a)) (sym number) ∙ sym (ap (attachments_seen s) is ∙ seen-with_tag s sound a v lower upper live i.tags i.tagged_once (untagged free))))
+      (ap (λ n. with_tag n lower upper (attachments_seen s a)) (sym number) ∙ sym (seen-with_tag s sound a v lower upper live i.tags once.tags (untagged free))))
 
   pub check-answers : (lower upper : ℕ) (o : Option (ℕ × ℕ)) (b : Bool) → None ≡ target_refusal takes.ObjectsAndExternals e.heap h → o ≡ option_map halves (tag_of a v)
       → b ≡ is_tag lower upper o → AnswersInTime (attaching e s a) (call.CheckObjectTypeTag h lower upper) (plain status.Ok (out.Flag b)) (attaching e s a)

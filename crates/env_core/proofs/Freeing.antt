@@ -1,21 +1,19 @@
 -- What is attached to values, as some of them are freed.
-use Rattle.std.proofs.Common.{◌≡◌, ◌∙◌, ℕ, ◌≤◌, ◌==◌, ◌&&◌, ◌||◌, Bool, true, false, not, cond, List, [], ◌∷◌, length, map, filter, get_or, Option, Some, None, IfSome, refl, ap, sym, subst}
+use Rattle.std.proofs.Common.{◌≡◌, ◌∙◌, ℕ, ◌==◌, ◌&&◌, ◌||◌, Bool, true, false, not, cond, List, [], ◌∷◌, map, filter, get_or, Option, Some, None, refl, ap, sym}
 use Rattle.std.specs.List.{All, list_any, filter_map, cons_option}
 use Rattle.std.proofs.lemmas.List.Elements.{All-head, All-tail, All-filter}
 use Rattle.std.proofs.lemmas.List.Folds.{list_any-append}
 use Rattle.std.proofs.lemmas.Bool.{not-true}
 use Rattle.napi_types.specs.plain.Lists.{has_number}
-use Rattle.napi_types.specs.parts.Attachments.{Wrapped, Tagged, Attached, Attachments, attached_where, left_on, tickets_where, hangs_on}
+use Rattle.napi_types.specs.parts.Attachments.{Wrapped, Tagged, Attached, Attachments, left_on, hangs_on}
 use Rattle.napi_types.specs.parts.Book.{Book, due_where}
 use Rattle.napi_types.specs.parts.Graph.{StoreState, IsSoundStore, IsLive, number_in}
 use Rattle.napi_types.specs.environment.Collection.{is_freed}
-use Rattle.napi_types.proofs.plain.Found.{passing, map-rising, as_map-kept}
+use Rattle.napi_types.proofs.plain.Found.{passing, map-rising}
 use Rattle.napi_types.proofs.plain.Lists.{any-map}
-use Rattle.napi_types.proofs.parts.AttachedTickets.{HoldsAttached, All-tickets_in, HoldsAttached-where}
-use Rattle.finalizer_queue.proofs.RowMoves.{length-due_where}
-use Rattle.wrap_tag.specs.Wraps.{AreGiven}
 use Rattle.wrap_tag.proofs.Dues.{due_where-same}
-use Rattle.env_core.specs.Attaching.{seen_wrap, seen_tag, seen_attached, attachments_seen, IsGiven, IsAttached}
+use Rattle.env_registry.specs.KeptRegistry.{AreOnce}
+use Rattle.env_core.specs.Attaching.{seen_wrap, seen_tag, seen_attached, attachments_seen, AreAttachedToLive}
 use Rattle.env_core.proofs.Attaching.{number-apart}
 use Rattle.env_core.proofs.Collecting.{FreesOthers, stays-live, stays-number}
 use Rattle.env_core.proofs.Renaming.{listed-filter, seen-filter, list_any-seen}
@@ -55,7 +53,7 @@ any-filter p f q (x ∷ xs) = by (q x) (any-filter p f q xs)
     by false rest = rest
 
 -- WHAT IS FREED
-module _ (s t : StoreState) (ids freed alive : List ℕ) (c : FreesOthers s t ids freed alive) (sound : IsSoundStore s) (a : Attachments) (book : Book) (i : IsAttached s a book) where
+module _ (s t : StoreState) (ids freed alive : List ℕ) (c : FreesOthers s t ids freed alive) (sound : IsSoundStore s) (a : Attachments) (i : AreAttachedToLive s a) where
   not-freed : (id : ℕ) → not (has_number id freed) ≡ true → has_number id freed ≡ false
   not-freed id is = not-true (has_number id freed) is
 
@@ -93,8 +91,8 @@ module _ (s t : StoreState) (ids freed alive : List ℕ) (c : FreesOthers s t id
   freed-same : (id n : ℕ) (o : Option ℕ) → IsLive s id → (has_number id freed && holds_of (hit n) o) ≡ (is_freed alive (number_in s id) && holds_of (hit n) o)
   freed-same id n o live = ap (λ b. b && holds_of (hit n) o) (c.told id live)
 
-  hangs-same : (n : ℕ) → hangs_on (λ v. has_number v freed) a n ≡ hangs_on (is_freed alive) (attachments_seen s a) n
-  hangs-same n =
+  hangs-same : AreOnce a → (n : ℕ) → hangs_on (λ v. has_number v freed) a n ≡ hangs_on (is_freed alive) (attachments_seen s a) n
+  hangs-same once n =
       let mine : Wrapped → Bool = λ w. has_number w.value freed && holds_of (hit n) w.ticket in
       let seen : Wrapped → Bool = λ w. is_freed alive w.value && holds_of (hit n) w.ticket in
       let wraps : list_any (hit n) (filter_map (λ w. w.ticket) (filter (λ w. has_number w.value freed) a.wraps))
@@ -103,7 +101,7 @@ module _ (s t : StoreState) (ids freed alive : List ℕ) (c : FreesOthers s t id
       ∙ any-same mine (λ w. seen (seen_wrap s w)) a.wraps (λ k w inside. freed-same (get_or a.wraps k w).value n (get_or a.wraps k w).ticket (i.wraps k w inside))
       ∙ sym (any-map seen (seen_wrap s) a.wraps)
       ∙ sym (list_any-seen (λ (w : Wrapped). w.value) (number_in s) (seen_wrap s) (λ w. refl) (IsLive s) (number-apart s sound) seen a.wraps i.wraps
-      (map-rising (λ (w : Wrapped). w.value) a.wraps i.wrapped_once))
+      (map-rising (λ (w : Wrapped). w.value) a.wraps once.wraps))
       ∙ sym (any-filter_map (hit n) (λ (w : Wrapped). w.ticket) (λ w. is_freed alive w.value) (attachments_seen s a).wraps) in
       let tickets : list_any (hit n) (map (λ t. t.ticket) (filter (λ t. has_number t.value freed) a.tickets))
       ≡ list_any (hit n) (map (λ t. t.ticket) (filter (λ t. is_freed alive t.value) (attachments_seen s a).tickets)) =
@@ -118,15 +116,8 @@ module _ (s t : StoreState) (ids freed alive : List ℕ) (c : FreesOthers s t id
       ∙ sym (list_any-append (hit n) (filter_map (λ w. w.ticket) (filter (λ w. is_freed alive w.value) (attachments_seen s a).wraps))
       (map (λ t. t.ticket) (filter (λ t. is_freed alive t.value) (attachments_seen s a).tickets)))
 
-  pub due-seen : due_where (hangs_on (λ v. has_number v freed) a) book ≡ due_where (hangs_on (is_freed alive) (attachments_seen s a)) book
-  due-seen = due_where-same (hangs_on (λ v. has_number v freed) a) (hangs_on (is_freed alive) (attachments_seen s a)) book hangs-same
-
-  -- the book gave each of them
-  pub given-freed : AreGiven (tickets_where (λ v. has_number v freed) a) book
-  given-freed =
-      let freed_here : ℕ → Bool = λ v. has_number v freed in
-      let all : HoldsAttached (IsGiven book) a = record { wraps = i.given_with_wraps; tickets = i.given } in
-      All-tickets_in (IsGiven book) (attached_where freed_here a) (HoldsAttached-where (IsGiven book) freed_here a all)
+  pub due-seen : (book : Book) → AreOnce a → due_where (hangs_on (λ v. has_number v freed) a) book ≡ due_where (hangs_on (is_freed alive) (attachments_seen s a)) book
+  due-seen book once = due_where-same (hangs_on (λ v. has_number v freed) a) (hangs_on (is_freed alive) (attachments_seen s a)) book (hangs-same once)
 
   -- WHAT IS LEFT
   live-left : {A : Type 0} (value : A → ℕ) (xs : List A) → All (λ x. IsLive s (value x)) xs → All (λ x. IsLive t (value x)) (filter (λ x. not (has_number (value x) freed)) xs)
@@ -135,17 +126,9 @@ module _ (s t : StoreState) (ids freed alive : List ℕ) (c : FreesOthers s t id
       λ k x inside. stays-live s t ids freed alive c (value (get_or (filter stays xs) k x)) (not-freed (value (get_or (filter stays xs) k x)) (passing value stays xs k x inside))
       (All-filter stays (λ y. IsLive s (value y)) xs live k x inside)
 
-  pub attached-left : IsAttached t (left_on (λ v. has_number v freed) a) (due_where (hangs_on (λ v. has_number v freed) a) book)
-  attached-left =
-      let same = length-due_where (hangs_on (λ v. has_number v freed) a) book in
-      record {
-        wraps = live-left (λ (w : Wrapped). w.value) a.wraps i.wraps;
-        tags = live-left (λ (w : Tagged). w.value) a.tags i.tags;
-        tickets = live-left (λ (w : Attached). w.value) a.tickets i.tickets;
-        wrapped_once = as_map-kept (λ (w : Wrapped). w.value) (λ w. not (has_number w.value freed)) a.wraps i.wrapped_once;
-        tagged_once = as_map-kept (λ (w : Tagged). w.value) (λ w. not (has_number w.value freed)) a.tags i.tagged_once;
-        given_with_wraps = All-filter (λ w. not (has_number w.value freed)) (λ (w : Wrapped). IfSome w.ticket (λ n. (1 ≤ n) × (n ≤ length (due_where (hangs_on (λ v. has_number v freed) a) book)))) a.wraps
-            (subst (λ l. All (λ (w : Wrapped). IfSome w.ticket (λ n. (1 ≤ n) × (n ≤ l))) a.wraps) (sym same) i.given_with_wraps);
-        given = All-filter (λ w. not (has_number w.value freed)) (λ (w : Attached). (1 ≤ w.ticket) × (w.ticket ≤ length (due_where (hangs_on (λ v. has_number v freed) a) book))) a.tickets
-            (subst (λ l. All (λ (w : Attached). (1 ≤ w.ticket) × (w.ticket ≤ l)) a.tickets) (sym same) i.given);
-      }
+  pub attached-left : AreAttachedToLive t (left_on (λ v. has_number v freed) a)
+  attached-left = record {
+    wraps = live-left (λ (w : Wrapped). w.value) a.wraps i.wraps;
+    tags = live-left (λ (w : Tagged). w.value) a.tags i.tags;
+    tickets = live-left (λ (w : Attached). w.value) a.tickets i.tickets;
+  }

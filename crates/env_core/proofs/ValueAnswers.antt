@@ -11,7 +11,6 @@ use Rattle.napi_types.specs.declared.entry.Reply.{Reply}
 use Rattle.napi_types.specs.plain.CallKinds.{is_value_call}
 use Rattle.napi_types.specs.plain.Replies.{Answer, plain}
 use Rattle.napi_types.specs.parts.Attachments.{Attachments}
-use Rattle.napi_types.specs.parts.Book.{Book}
 use Rattle.napi_types.specs.parts.Frames.{caller_of}
 use Rattle.napi_types.specs.parts.Graph.{StoreState, IsLive}
 use Rattle.napi_types.specs.parts.Heap.{Heap}
@@ -27,7 +26,7 @@ use Rattle.napi_types.proofs.environment.Answers.{heap_answer-keeps}
 use Rattle.std.specs.Option.{option_or}
 use Rattle.handle_scope.specs.HandleScopes.{HandleScopes}
 use Rattle.env_values.specs.SeenValues.{seen_frame, heap_of, KeepsValues}
-use Rattle.env_core.specs.Attaching.{attachments_seen, IsAttached}
+use Rattle.env_core.specs.Attaching.{attachments_seen, AreAttachedToLive}
 use Rattle.env_core.proofs.Attaching.{attachments-kept}
 use Rattle.env_core.specs.FunctionRooting.{function_roots_seen, RootsAreLive}
 use Rattle.env_core.proofs.FunctionRooting.{roots-kept}
@@ -141,23 +140,23 @@ pub references-kept : (s t : StoreState) (m : ReferenceMap) → KeepsValues s t 
 references-kept s t m kept live = ap (λ l. record m { rows = l }) (rows-kept s t m.rows kept live)
 
 -- where the heap is seen as it was, so is all that names its values
-pub same-seen : (e : Environment) (s t : StoreState) (old new : HandleScopes) (m : ReferenceMap) (rs : List FunctionRoot) (a : Attachments) (book : Book) (p : Option ℕ) → KeepsValues s t → RefersToLive s m
-    → RootsAreLive s rs → IsAttached s a book → IfSome p (IsLive s) → heap_of t new ≡ heap_of s old
+pub same-seen : (e : Environment) (s t : StoreState) (old new : HandleScopes) (m : ReferenceMap) (rs : List FunctionRoot) (a : Attachments) (p : Option ℕ) → KeepsValues s t → RefersToLive s m
+    → RootsAreLive s rs → AreAttachedToLive s a → IfSome p (IsLive s) → heap_of t new ≡ heap_of s old
     → record e { heap = heap_of t new; references = references_seen t m; attachments = attachments_seen t a; function_roots = function_roots_seen t rs; pending = pending_seen t p }
     ≡ record e { heap = heap_of s old; references = references_seen s m; attachments = attachments_seen s a; function_roots = function_roots_seen s rs; pending = pending_seen s p }
-same-seen e s t old new m rs a book p kept live rooted attached alive same =
+same-seen e s t old new m rs a p kept live rooted attached alive same =
     let seen : Heap → ReferenceMap → Attachments → List FunctionRoot → Option ℕ → Environment =
     λ h l x f q. record e { heap = h; references = l; attachments = x; function_roots = f; pending = q } in
     ap (λ h. seen h (references_seen t m) (attachments_seen t a) (function_roots_seen t rs) (pending_seen t p)) same
     ∙ ap (λ l. seen (heap_of s old) l (attachments_seen t a) (function_roots_seen t rs) (pending_seen t p)) (references-kept s t m kept live)
-    ∙ ap (λ x. seen (heap_of s old) (references_seen s m) x (function_roots_seen t rs) (pending_seen t p)) (attachments-kept s t kept a book attached)
+    ∙ ap (λ x. seen (heap_of s old) (references_seen s m) x (function_roots_seen t rs) (pending_seen t p)) (attachments-kept s t kept a attached)
     ∙ ap (λ f. seen (heap_of s old) (references_seen s m) (attachments_seen s a) f (pending_seen t p)) (roots-kept s t rs kept rooted)
     ∙ ap (λ q. seen (heap_of s old) (references_seen s m) (attachments_seen s a) (function_roots_seen s rs) q) (pending-kept s t p kept alive)
 
 -- a call that finds no memory leaves what the machine sees
-pub stopped-same : {A E : Type 0} (e : Environment) (s t : StoreState) (old new : HandleScopes) (m : ReferenceMap) (rs : List FunctionRoot) (a : Attachments) (book : Book) (p : Option ℕ) (r : Result A E)
-    → KeepsValues s t → RefersToLive s m → RootsAreLive s rs → IsAttached s a book → IfSome p (IsLive s) → OnErr r (heap_of t new ≡ heap_of s old)
+pub stopped-same : {A E : Type 0} (e : Environment) (s t : StoreState) (old new : HandleScopes) (m : ReferenceMap) (rs : List FunctionRoot) (a : Attachments) (p : Option ℕ) (r : Result A E)
+    → KeepsValues s t → RefersToLive s m → RootsAreLive s rs → AreAttachedToLive s a → IfSome p (IsLive s) → OnErr r (heap_of t new ≡ heap_of s old)
     → OnErr r (record e { heap = heap_of t new; references = references_seen t m; attachments = attachments_seen t a; function_roots = function_roots_seen t rs; pending = pending_seen t p }
     ≡ record e { heap = heap_of s old; references = references_seen s m; attachments = attachments_seen s a; function_roots = function_roots_seen s rs; pending = pending_seen s p })
-stopped-same e s t old new m rs a book p (Ok x) kept live rooted attached alive same = tt
-stopped-same e s t old new m rs a book p (Err x) kept live rooted attached alive same = same-seen e s t old new m rs a book p kept live rooted attached alive same
+stopped-same e s t old new m rs a p (Ok x) kept live rooted attached alive same = tt
+stopped-same e s t old new m rs a p (Err x) kept live rooted attached alive same = same-seen e s t old new m rs a p kept live rooted attached alive same

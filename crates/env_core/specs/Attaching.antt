@@ -1,5 +1,5 @@
 -- What is attached to values, as the machine sees it.
-use Rattle.std.specs.Prelude.{◌≡◌, ℕ, ◌≤◌, Bool, length, map, Option, is_some, IfSome}
+use Rattle.std.specs.Prelude.{Bool, map, Option, is_some}
 use Rattle.std.specs.List.{All}
 use Rattle.std.specs.Option.{option_or}
 use Rattle.napi_types.specs.declared.body.Body.{Body}
@@ -9,7 +9,6 @@ use Rattle.napi_types.specs.declared.status.Status.TheVariants as status
 use Rattle.napi_types.specs.plain.Lists.{as_map, unless}
 use Rattle.napi_types.specs.parts.Attachments.{Attachments, Wrapped, Tagged, Attached}
 use Rattle.napi_types.specs.parts.Bodies.{is_object_like, is_taggable}
-use Rattle.napi_types.specs.parts.Book.{Book}
 use Rattle.napi_types.specs.parts.Kinds.{expects}
 use Rattle.napi_types.specs.parts.Graph.{StoreState, IsLive, number_in}
 use Rattle.napi_types.specs.parts.Heap.{Heap}
@@ -36,20 +35,11 @@ attachments_seen store a = record {
   tickets = map (seen_attached store) a.tickets;
 }
 
--- WHAT HOLDS OF IT
--- the book gave the ticket
-abbrev pub IsGiven : Book → ℕ → Type 0
-IsGiven book ticket = (1 ≤ ticket) × (ticket ≤ length book)
-
--- what is attached is attached to live values, a value has one wrap and one tag at most, and the book gave each ticket
-pub record IsAttached (store : StoreState) (a : Attachments) (book : Book) : Type 0 where
+-- what is attached is attached to live values
+pub record AreAttachedToLive (store : StoreState) (a : Attachments) : Type 0 where
   pub wraps : All (λ w. IsLive store w.value) a.wraps
   pub tags : All (λ t. IsLive store t.value) a.tags
   pub tickets : All (λ t. IsLive store t.value) a.tickets
-  pub wrapped_once : as_map (λ w. w.value) a.wraps ≡ a.wraps
-  pub tagged_once : as_map (λ t. t.value) a.tags ≡ a.tags
-  pub given_with_wraps : All (λ w. IfSome w.ticket (IsGiven book)) a.wraps
-  pub given : All (λ t. IsGiven book t.ticket) a.tickets
 
 -- WHAT A CALL TAKES
 -- what a wrap may be of, and what a type tag may be on

@@ -1,8 +1,7 @@
 -- Tickets whose frames begin, and whose frames stand.
-use Rattle.std.specs.Prelude.{◌≡◌, ◌≢◌, ℕ, true, List, Some}
+use Rattle.std.specs.Prelude.{◌≡◌, ℕ, true, List, Some}
 use Rattle.std.specs.List.{All}
 use Rattle.napi_types.specs.declared.duties.DueInfo.{DueInfo}
-use Rattle.napi_types.specs.declared.entry.Cause.TheVariants as cause
 use Rattle.napi_types.specs.declared.entry.Duty.{Duty}
 use Rattle.napi_types.specs.declared.entry.Duty.TheVariants as duty
 use Rattle.napi_types.specs.declared.entry.Entry.{Entry}
@@ -20,11 +19,6 @@ HasBegun book _ = Unit {0}
 -- each ticket whose frame stands has begun
 abbrev pub AreBegun : List Frame → Book → Type 0
 AreBegun frames book = All (HasBegun book) (duties_of frames)
-
--- a book beside the frames that stand: the tickets of those frames have begun, and no ticket's frame is one that a call begins
-pub record IsBookOf (frames : List Frame) (book : Book) : Type 0 where
-  pub begun : AreBegun frames book
-  pub uncalled : All (λ r. r.cause ≢ cause.Call) book
 
 -- the next ticket begins: its frame's entry, what it tells, and the environment after it
 pub record BeginsFrame (old : Environment) (x : Entry) (due : DueInfo) (new : Environment) : Type 0 where

@@ -3,11 +3,9 @@ pub mod Beginning
 pub mod Core
 pub mod CoreSteps
 pub mod FunctionRooting
-pub mod Instancing
 pub mod Journal
 pub mod Looking
 pub mod Referring
-pub mod RegisteringWants
 pub mod Rooting
 pub mod Sharing
 pub mod Standing

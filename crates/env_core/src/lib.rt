@@ -8,11 +8,10 @@ mod env;
 mod frames;
 mod function_roots;
 mod handles;
-mod instances;
 mod journal;
-mod registering;
 mod roots;
 mod state;
+mod weak_references;
 
 pub use env::{EnvCore, Stepped};
 pub use frames::StandingFrame;

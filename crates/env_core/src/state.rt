@@ -18,7 +18,7 @@ ghost use Rattle.napi_types.specs.environment.Moments.{is_tearing, moment_refusa
 ghost use Rattle.napi_types.specs.environment.Refusals.{timely_refusal, early_refusal};
 ghost use Rattle.napi_types.specs.environment.Registering.{finalizer_if};
 ghost use Rattle.env_core.specs.Standing.{machine_frame};
-ghost use Rattle.finalizer_queue.specs.TicketRows.{registration_of};
+ghost use Rattle.env_registry.specs.Registering.{registration_of};
 ghost use Rattle.env_core.specs.Core.{next_init};
 ghost use Rattle.env_core.specs.State.{HasNumbersFor, Calls, Answers, AnswersInTime, FindsNoMemory, opening_call, closing_call};
 
@@ -37,12 +37,10 @@ mod tickets;
 
 use crate::frames::{Frames, StandingFrame};
 use crate::function_roots::FunctionRoots;
-use crate::instances::InstanceTable;
 pub use calling::Called;
-use cleanup_hooks::Hooks;
+use env_registry::{Finalizer, Registry};
 use env_values::value_step;
 use exception_state::Exceptions;
-use finalizer_queue::{Book, NewDuty};
 use handle_scope::{ScopeKind, Scopes};
 use napi_reference::Refs;
 use napi_types::{
@@ -52,7 +50,6 @@ use napi_types::{
 use std::alloc::Global;
 use std::marker::Model;
 use value_store::Store;
-use wrap_tag::Wraps;
 
 /// The environment's state.
 #[derive(Drop)]
@@ -68,10 +65,7 @@ pub struct State {
     scopes: Scopes,
     frames: Frames,
     references: Refs,
-    wraps: Wraps,
-    book: Book,
-    hooks: Hooks,
-    instances: InstanceTable,
+    registry: Registry,
     function_roots: FunctionRoots,
     exceptions: Exceptions,
 }
@@ -84,8 +78,8 @@ impl Model for State {
 
     ghost use Rattle.env_values.specs.SeenValues.{heap_of};
     ghost use Rattle.napi_reference.specs.ReferencePlaces.{map_of};
-    ghost use Rattle.env_core.specs.Attaching.{attachments_seen, IsAttached};
-    ghost use Rattle.env_core.specs.Beginning.{IsBookOf};
+    ghost use Rattle.env_core.specs.Attaching.{attachments_seen, AreAttachedToLive};
+    ghost use Rattle.env_core.specs.Beginning.{AreBegun};
     ghost use Rattle.env_core.specs.FunctionRooting.{function_roots_seen};
     ghost use Rattle.env_core.specs.Referring.{references_seen};
     ghost use Rattle.env_core.specs.State.{pending_seen, IsState};
@@ -100,18 +94,18 @@ impl Model for State {
       heap = heap_of state.store state.scopes;
       frames = state.frames;
       references = references_seen state.store (map_of state.references);
-      attachments = attachments_seen state.store state.wraps.attachments;
-      book = state.book.book;
-      hooks = state.hooks;
-      instances = state.instances;
+      attachments = attachments_seen state.store state.registry.parts.attachments;
+      book = state.registry.parts.book;
+      hooks = state.registry.parts.hooks;
+      instances = state.registry.parts.instances;
       function_roots = function_roots_seen state.store state.function_roots;
       pending = pending_seen state.store state.exceptions.pending;
       last = state.exceptions.last;
     } };
 
     ghost invariant = { λ state. IsState state.store state.scopes state.frames state.exceptions.pending (map_of state.references) state.function_roots
-        × IsAttached state.store state.wraps.attachments state.book.book
-        × IsBookOf state.frames state.book.book };
+        × AreAttachedToLive state.store state.registry.parts.attachments
+        × AreBegun state.frames state.registry.parts.book };
 }
 
 impl State {
@@ -123,9 +117,7 @@ impl State {
         let scopes = Scopes::new(alloc)?;
         let frames = Frames::new(alloc)?;
         let references = Refs::new(alloc)?;
-        let wraps = Wraps::new(alloc)?;
-        let book = Book::new(alloc)?;
-        let instances = InstanceTable::new(alloc, addons)?;
+        let registry = Registry::new(alloc, addons)?;
         Ok(State {
             alloc,
             addons,
@@ -138,10 +130,7 @@ impl State {
             scopes,
             frames,
             references,
-            wraps,
-            book,
-            hooks: Hooks::new(alloc),
-            instances,
+            registry,
             function_roots: FunctionRoots::new(alloc),
             exceptions: Exceptions::new(),
         })
@@ -403,11 +392,10 @@ impl State {
     }
 
     /// A finalizer as a call registers it, where the call names an entry: the entry is one of the addon that calls.
-    fn finalizer_if(&self, payload: u64, entry: Option<u32>, hint: u64) -> Option<NewDuty>
+    fn finalizer_if(&self, payload: u64, entry: Option<u32>, hint: u64) -> Option<Finalizer>
         ensures { option_map registration_of result ≡ finalizer_if self.now payload entry hint }
     {
-        Some(NewDuty {
-            cause: Cause::Finalize,
+        Some(Finalizer {
             addon: self.caller(),
             entry: entry?,
             payload,
@@ -497,7 +485,7 @@ impl State {
     {
         self.phase = phase;
         match phase {
-            Phase::Finals => self.book.all_due(),
+            Phase::Finals => self.registry.all_due(),
             _ => {}
         }
     }

@@ -7,9 +7,7 @@ ghost use Rattle.env_core.specs.State.{AnswersInTime, FindsNoMemory, HasNumbersF
 
 use super::State;
 use crate::handles::{Attachable, target};
-use crate::registering::{
-    attach_if, refer_if, register_if, reserve_attached, reserve_ticket, wants_alone, withdraw_if,
-};
+use crate::weak_references::{refer_if, wants_alone};
 use napi_types::{Call, CallGroup, HandleId, NoMemory, Out, Reply, Status};
 
 impl State {
@@ -64,15 +62,15 @@ impl State {
         if wants_alone(finalizer, wanted) {
             return Ok(Reply::plain(Status::InvalidArg, Out::Nothing));
         }
-        if self.wraps.wrapped(value).is_some() {
+        if self.registry.wrapped(value).is_some() {
             return Ok(Reply::plain(Status::InvalidArg, Out::Nothing));
         }
-        let duty = self.finalizer_if(payload, finalizer, hint);
-        let ticket = reserve_ticket(&mut self.book, duty)?;
-        self.wraps.reserve()?;
+        // The value has one wrap at most.
+        self.registry.recall();
+        let asked = self.finalizer_if(payload, finalizer, hint);
+        self.registry.reserve_wrap(asked)?;
         let out = refer_if(&mut self.references, value, wanted)?;
-        self.wraps.wrap(value, payload, ticket);
-        let made = register_if(&mut self.book, duty);
+        let made = self.registry.wrap(value, payload, asked);
         Ok(Reply {
             status: Status::Ok,
             out,
@@ -102,11 +100,10 @@ impl State {
             Ok(value) => value,
             Err(status) => return Ok(Reply::plain(status, Out::Nothing)),
         };
-        let duty = self.finalizer_if(payload, Some(entry), hint);
-        let ticket = reserve_attached(&mut self.book, &mut self.wraps, duty)?;
+        let asked = self.finalizer_if(payload, Some(entry), hint);
+        self.registry.reserve_finalizer(asked)?;
         let out = refer_if(&mut self.references, value, wanted)?;
-        attach_if(&mut self.wraps, value, ticket);
-        let made = register_if(&mut self.book, duty);
+        let made = self.registry.attach(value, asked);
         Ok(Reply {
             status: Status::Ok,
             out,
@@ -124,7 +121,7 @@ impl State {
             Ok(value) => value,
             Err(status) => return Reply::plain(status, Out::Nothing),
         };
-        match self.wraps.wrapped(value) {
+        match self.registry.wrapped(value) {
             Some(payload) => Reply::plain(Status::Ok, Out::Unsigned(payload)),
             None => Reply::plain(Status::InvalidArg, Out::Nothing),
         }
@@ -140,14 +137,14 @@ impl State {
             Ok(value) => value,
             Err(status) => return Reply::plain(status, Out::Nothing),
         };
-        match self.wraps.unwrap_out(value) {
-            Some((payload, ticket)) => Reply {
-                status: Status::Ok,
-                out: Out::Unsigned(payload),
-                dropped: withdraw_if(&mut self.book, ticket),
-                made: None,
-            },
-            None => Reply::plain(Status::InvalidArg, Out::Nothing),
+        let Some((payload, dropped)) = self.registry.unwrap_out(value) else {
+            return Reply::plain(Status::InvalidArg, Out::Nothing);
+        };
+        Reply {
+            status: Status::Ok,
+            out: Out::Unsigned(payload),
+            dropped,
+            made: None,
         }
     }
 
@@ -172,11 +169,12 @@ impl State {
             Ok(value) => value,
             Err(status) => return Ok(Reply::plain(status, Out::Nothing)),
         };
-        if self.wraps.tag_of(value).is_some() {
+        if self.registry.tag_of(value).is_some() {
             return Ok(Reply::plain(Status::InvalidArg, Out::Nothing));
         }
-        self.wraps.reserve()?;
-        self.wraps.tag(value, lower, upper);
+        // The value has one tag at most.
+        self.registry.recall();
+        self.registry.tag(value, lower, upper)?;
         Ok(Reply::plain(Status::Ok, Out::Nothing))
     }
 
@@ -194,7 +192,7 @@ impl State {
             Ok(value) => value,
             Err(status) => return Reply::plain(status, Out::Nothing),
         };
-        let tagged = match self.wraps.tag_of(value) {
+        let tagged = match self.registry.tag_of(value) {
             Some((low, high)) => low == lower && high == upper,
             None => false,
         };

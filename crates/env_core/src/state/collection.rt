@@ -40,11 +40,12 @@ impl State {
             &self.function_roots,
             self.exceptions.pending(),
         )?;
-        // What is attached to live values is told apart by their creation numbers.
+        // What is attached to live values is told apart by their creation numbers, and a value has one wrap and one tag at most.
         recall(&self.store);
+        self.registry.recall();
         let freed = trace_collect::collect(self.alloc, &mut self.store, &roots)?;
         self.references.empty_of(&freed);
-        self.wraps.gone_all(&freed, &mut self.book);
+        self.registry.gone_all(&freed);
         Ok(Reply::plain(Status::Ok, Out::Unsigned(freed.len() as u64)))
     }
 }

@@ -7,7 +7,6 @@ ghost use Rattle.napi_types.specs.environment.Refusals.{timely_refusal};
 ghost use Rattle.env_core.specs.State.{AnswersInTime, FindsNoMemory, HasNumbersFor};
 
 use super::State;
-use crate::registering::{attach_if, register_if, reserve_attached};
 use env_values::make_held;
 use napi_types::{Body, Call, CallGroup, NoMemory, Reply, Status};
 
@@ -46,12 +45,11 @@ impl State {
         ensures err { OnErr result (self.new ≡ self.old) }
         ensures unrefused { OnErr result (timely_refusal self.old (call_of.CreateExternal payload finalizer hint) ≡ None) }
     {
-        let duty = self.finalizer_if(payload, finalizer, hint);
-        let ticket = reserve_attached(&mut self.book, &mut self.wraps, duty)?;
+        let asked = self.finalizer_if(payload, finalizer, hint);
+        self.registry.reserve_finalizer(asked)?;
         let body = Body::External(payload);
         let (value, out) = make_held(&mut self.store, &mut self.scopes, body)?;
-        attach_if(&mut self.wraps, value, ticket);
-        let made = register_if(&mut self.book, duty);
+        let made = self.registry.attach(value, asked);
         Ok(Reply {
             status: Status::Ok,
             out,

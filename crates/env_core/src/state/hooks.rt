@@ -7,9 +7,7 @@ ghost use Rattle.napi_types.specs.environment.Refusals.{timely_refusal};
 ghost use Rattle.env_core.specs.State.{AnswersInTime, FindsNoMemory, HasNumbersFor};
 
 use super::State;
-use crate::registering::withdraw_if;
-use finalizer_queue::NewDuty;
-use napi_types::{Call, CallGroup, Cause, Duty, NoMemory, Out, Reply, Status};
+use napi_types::{Call, CallGroup, NoMemory, Out, Reply, Status};
 
 impl State {
     /// What a call on cleanup hooks answers.
@@ -47,23 +45,15 @@ impl State {
         ensures unrefused { OnErr result (timely_refusal self.old (call_of.AddEnvCleanupHook entry argument) ≡ None) }
     {
         let addon = self.caller();
-        if self.hooks.find(addon, entry, argument).is_some() {
+        if self.registry.find_hook(addon, entry, argument).is_some() {
             return Ok(Reply::plain(Status::InvalidArg, Out::Nothing));
         }
-        self.book.reserve()?;
-        self.hooks.add(addon, entry, argument, self.book.next())?;
-        let ticket = self.book.register(NewDuty {
-            cause: Cause::Hook,
-            addon,
-            entry,
-            payload: argument,
-            hint: 0,
-        });
+        let duty = self.registry.add_hook(addon, entry, argument)?;
         Ok(Reply {
             status: Status::Ok,
             out: Out::Nothing,
             dropped: None,
-            made: Some(Duty::Ticket(ticket)),
+            made: Some(duty),
         })
     }
 
@@ -74,14 +64,13 @@ impl State {
         ensures { AnswersInTime self.old (call_of.RemoveEnvCleanupHook entry argument) result self.new }
     {
         let addon = self.caller();
-        let Some(ticket) = self.hooks.find(addon, entry, argument) else {
+        let Some(ticket) = self.registry.find_hook(addon, entry, argument) else {
             return Reply::plain(Status::InvalidArg, Out::Nothing);
         };
-        self.hooks.remove(ticket);
         Reply {
             status: Status::Ok,
             out: Out::Nothing,
-            dropped: withdraw_if(&mut self.book, Some(ticket)),
+            dropped: self.registry.remove_hook(ticket),
             made: None,
         }
     }

@@ -6,7 +6,6 @@ ghost use Rattle.napi_types.specs.environment.Refusals.{timely_refusal};
 ghost use Rattle.env_core.specs.State.{AnswersInTime, FindsNoMemory, HasNumbersFor};
 
 use super::State;
-use crate::registering::{register_if, reserve_ticket, withdraw_if};
 use napi_types::{Call, CallGroup, NoMemory, Out, Reply, Status};
 
 impl State {
@@ -43,17 +42,13 @@ impl State {
         ensures unrefused { OnErr result (timely_refusal self.old (call_of.SetInstanceData payload finalizer hint) ≡ None) }
     {
         let addon = self.caller();
-        let duty = self.finalizer_if(payload, finalizer, hint);
-        let ticket = reserve_ticket(&mut self.book, duty)?;
-        let replaced = self.instances.ticket(addon);
-        let dropped = withdraw_if(&mut self.book, replaced);
-        self.instances.set(addon, payload, ticket);
-        let made = register_if(&mut self.book, duty);
+        let asked = self.finalizer_if(payload, finalizer, hint);
+        let replaced = self.registry.set_instance_data(addon, payload, asked)?;
         Ok(Reply {
             status: Status::Ok,
             out: Out::Nothing,
-            dropped,
-            made,
+            dropped: replaced.dropped,
+            made: replaced.made,
         })
     }
 
@@ -62,7 +57,7 @@ impl State {
     pub(super) fn get_instance_data(&self) -> Reply
         ensures { AnswersInTime self.now call_of.GetInstanceData result self.now }
     {
-        let payload = self.instances.payload(self.caller());
+        let payload = self.registry.instance_data(self.caller());
         Reply::plain(Status::Ok, Out::Unsigned(payload))
     }
 }

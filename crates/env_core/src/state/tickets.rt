@@ -15,7 +15,6 @@ ghost use Rattle.env_core.specs.Beginning.{BeginsFrame};
 
 use super::{State, host_entry};
 use crate::frames::{Frames, StandingFrame};
-use finalizer_queue::Book;
 use handle_scope::Scopes;
 use napi_types::{Begun, Due, DueInfo, Entry, HostStep, Out, Phase, Why};
 
@@ -25,8 +24,8 @@ impl State {
         ensures { result ≡ is_some (next_ticket self.now) }
     {
         match self.phase {
-            Phase::Live | Phase::Finals => self.book.has_due(),
-            Phase::Hooks => self.hooks.last_added().is_some(),
+            Phase::Live | Phase::Finals => self.registry.has_due(),
+            Phase::Hooks => self.registry.has_hook(),
             _ => false,
         }
     }
@@ -55,7 +54,7 @@ impl State {
         ensures stays { result ≡ None → self.new ≡ self.old }
         ensures begun { IfSome result (λ begin. BeginsFrame self.old begin.0 begin.1 self.new) }
     {
-        let due = self.book.take_due()?;
+        let due = self.registry.begin_due()?;
         let begin = begin_frame(&mut self.scopes, &mut self.frames, *due.info());
         Some((begin, due))
     }
@@ -69,8 +68,7 @@ impl State {
         ensures stays { result ≡ None → self.new ≡ self.old }
         ensures begun { IfSome result (λ begin. BeginsFrame self.old begin.0 begin.1 self.new) }
     {
-        let ticket = self.hooks.take_last()?;
-        let due = self.book.take_ticket(ticket);
+        let due = self.registry.begin_hook()?;
         let begin = begin_frame(&mut self.scopes, &mut self.frames, *due.info());
         Some((begin, due))
     }
@@ -87,7 +85,7 @@ impl State {
         let out = self.clear_at_end(cut);
         self.scopes.leave_frame();
         self.frames.pop();
-        end_ticket(&mut self.book, begun);
+        self.registry.end_ticket(begun);
         host_entry(HostStep::End, out)
     }
 }
@@ -113,13 +111,4 @@ pub(super) fn begin_frame(scopes: &mut Scopes, frames: &mut Frames, told: DueInf
         HostStep::Begin,
         Out::Begin(told.cause, told.addon, told.entry, Some(told.duty)),
     )
-}
-
-/// A duty that has begun, which is that of a ticket, ends.
-#[tactic(auto, using(crate::proofs::Beginning::duty_ticket))]
-fn end_ticket(book: &mut Book, begun: Begun)
-    requires { is_at is_begun book.old.book (ticket_number begun.duty) ≡ true }
-    ensures { book.new.book ≡ duty_ended (Some begun.duty) book.old.book }
-{
-    book.done(begun);
 }

@@ -4,10 +4,9 @@ use Rattle.napi_reference.specs.ReferencePlaces.{map_of}
 use Rattle.trace_collect.specs.Collects.{reached}
 use Rattle.env_core.specs.Rooting.{AreRoots}
 use Rattle.env_core.specs.contracts.state.State.{the_view}
-use Rattle.env_core.proofs.Beginning.{book-moved}
+use Rattle.env_core.proofs.Beginning.{begun-still-moved}
 use Rattle.env_core.proofs.Rooting.{roots-start}
-use Rattle.env_core.specs.Attaching.{attachments_seen}
-use Rattle.env_core.proofs.Freeing.{seen-left, due-seen, given-freed, attached-left}
+use Rattle.env_core.proofs.Freeing.{seen-left, due-seen, attached-left}
 use Rattle.env_core.proofs.Collecting.{frees-others, strong-kept, state-collected, collected-answers}
 use Rattle.env_core.proofs.state.State.collect.Goals as goal
 use Rattle.napi_types.proofs.parts.Moves.{Falls}
@@ -42,9 +41,9 @@ invariant_of-self-2 c =
     let alive = reached s.store roots in (
       state-collected s.store c.collect.new.store s.scopes s.frames (map_of s.references) (map_of c.empty_of.new.self) s.function_roots s.exceptions.pending roots freed alive
           c.self.invariant.0 are others (rw c.deref-2.ensures.value at c.empty_of.ensures.emptied),
-      rw (c.gone_all.ensures.forgotten, c.gone_all.ensures.due, c.deref-3.ensures.value)
-          (attached-left s.store c.collect.new.store roots freed alive others c.recall.ensures s.wraps.attachments s.book.book c.self.invariant.1),
-      book-moved s.frames Falls (λ h. cc) s.book.book c.gone_all.new.book.book _ c.gone_all.ensures.due c.self.invariant.2,
+      rw (c.gone_all.ensures, c.deref-3.ensures.value)
+          (attached-left s.store c.collect.new.store roots freed alive others c.recall.ensures s.registry.parts.attachments c.self.invariant.1),
+      rw c.gone_all.ensures (begun-still-moved s.frames Falls (λ h. cc) s.registry.parts.book _ c.self.invariant.2),
     )
 
 pub returns-clause-ok : goal.returns-clause-ok
@@ -58,18 +57,9 @@ returns-clause-ok c =
     let others = frees-others s.store c.collect.new.store roots freed k.freed k.frees k.roots in
     let alive = reached s.store roots in
     rw (← c.self.view_is)
-    (rw (c.plain.ensures, c.len.ensures)
+    (rw (c.plain.ensures, c.len.ensures, c.gone_all.ensures)
     (collected-answers (the_view s) s.store c.collect.new.store s.scopes s.frames (map_of s.references) (map_of c.empty_of.new.self) s.function_roots s.exceptions.pending roots freed (reached s.store roots) c.in_ok-freed.freed.len
-    c.self.invariant.0 are refl others k.graph (c.in_ok-freed.freed.ok.0 ∙ k.count) (rw c.deref-2.ensures.value at c.empty_of.ensures.emptied)
-    (attachments_seen c.collect.new.store c.gone_all.new.self.attachments) c.gone_all.new.book.book
-    (rw (c.gone_all.ensures.forgotten, c.deref-3.ensures.value) (seen-left s.store c.collect.new.store roots freed alive others c.recall.ensures s.wraps.attachments s.book.book c.self.invariant.1))
-    (rw (c.gone_all.ensures.due, c.deref-3.ensures.value) (due-seen s.store c.collect.new.store roots freed alive others c.recall.ensures s.wraps.attachments s.book.book c.self.invariant.1))))
-
-pub gone_all-requires : goal.gone_all-requires
-gone_all-requires c =
-    let s = c.self.inside in
-    let k = c.in_ok-freed.ensures in
-    let roots = numbers_of c.deref.result.now in
-    let freed = numbers_of c.in_ok-freed.freed.items in
-    let others = frees-others s.store c.collect.new.store roots freed k.freed k.frees k.roots in
-    rw c.deref-3.ensures.value (given-freed s.store c.collect.new.store roots freed (reached s.store roots) others c.recall.ensures s.wraps.attachments s.book.book c.self.invariant.1)
+    c.self.invariant.0 are refl others k.graph (c.in_ok-freed.freed.ok.0 ∙ k.count) (rw c.deref-2.ensures.value at c.empty_of.ensures.emptied) _ _
+    (rw c.deref-3.ensures.value (seen-left s.store c.collect.new.store roots freed alive others c.recall.ensures s.registry.parts.attachments c.self.invariant.1))
+    (rw c.deref-3.ensures.value
+    (due-seen s.store c.collect.new.store roots freed alive others c.recall.ensures s.registry.parts.attachments c.self.invariant.1 s.registry.parts.book c.recall-2.ensures))))

@@ -4,7 +4,7 @@ use Rattle.napi_types.specs.parts.Frames.{duty_of}
 use Rattle.napi_types.specs.environment.Environment.{Environment}
 use Rattle.env_values.specs.SeenValues.{seen_frame}
 use Rattle.env_core.specs.contracts.state.State.{the_view}
-use Rattle.env_core.proofs.Beginning.{attached-ended, book-ended, innermost-begun, left-with}
+use Rattle.env_core.proofs.Beginning.{begun-none, innermost-begun, left-with}
 use Rattle.env_core.proofs.Ending.{state-left}
 use Rattle.env_core.proofs.SeenScopes.{map-tail}
 use Rattle.env_core.proofs.state.State.end_duty.Goals as goal
@@ -13,15 +13,15 @@ pub end_ticket-requires : goal.end_ticket-requires
 end_ticket-requires c =
     let s = c.self.inside in
     let same = ap (λ (e : Environment). e.frames) (c.self.view_is ∙ c.clear_at_end-out.ensures.cleared) in
-    innermost-begun s.frames s.book.book c.args.begun.duty (ap duty_of same ∙ c.requires.duty) c.requires.local c.self.invariant.2.begun
+    innermost-begun s.frames s.registry.parts.book c.args.begun.duty (ap duty_of same ∙ c.requires.duty) c.requires.local c.self.invariant.2
 
 pub invariant_of-self : goal.invariant_of-self
 invariant_of-self c =
     let s = c.self.inside in
     let same = ap (λ (e : Environment). e.frames) (c.self.view_is ∙ c.clear_at_end-out.ensures.cleared) in (
       state-left s.store s.scopes c.leave_frame.new.self s.frames c.pop.new.self s.exceptions.pending s.exceptions.pending c.self.invariant.0 c.leave_frame.ensures c.pop.ensures c.self.invariant.0.pending,
-      attached-ended s.store s.wraps.attachments s.book.book c.end_ticket.new.book.book c.args.begun.duty c.end_ticket.ensures c.self.invariant.1,
-      book-ended s.frames c.pop.new.self s.book.book c.end_ticket.new.book.book c.args.begun.duty (c.pop.ensures ∙ ap tail same ∙ c.requires.alone) c.end_ticket.ensures c.self.invariant.2,
+      rw c.end_ticket.ensures c.self.invariant.1,
+      begun-none c.pop.new.self c.end_ticket.new.self.parts.book (c.pop.ensures ∙ ap tail same ∙ c.requires.alone),
     )
 
 pub returns-clause-after : goal.returns-clause-after

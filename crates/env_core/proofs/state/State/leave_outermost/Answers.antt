@@ -1,4 +1,4 @@
-use Rattle.env_core.proofs.Beginning.{book-left}
+use Rattle.env_core.proofs.Beginning.{begun-left}
 use Rattle.env_core.proofs.Ending.{state-left}
 use Rattle.env_core.proofs.state.State.leave_outermost.Goals as goal
 
@@ -7,5 +7,5 @@ invariant_of-self c =
     let s = c.self.inside in (
       state-left s.store s.scopes c.leave_frame.new.self s.frames c.pop.new.self s.exceptions.pending s.exceptions.pending c.self.invariant.0 c.leave_frame.ensures c.pop.ensures c.self.invariant.0.pending,
       c.self.invariant.1,
-      book-left s.frames c.pop.new.self s.book.book c.pop.ensures c.self.invariant.2,
+      begun-left s.frames c.pop.new.self s.registry.parts.book c.pop.ensures c.self.invariant.2,
     )

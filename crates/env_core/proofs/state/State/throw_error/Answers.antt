@@ -26,7 +26,7 @@ returns-clause-ok c =
       c.set.ensures,
       references-kept s.store t (map_of s.references) k.kept c.self.invariant.0.referred,
       roots-kept s.store t s.function_roots k.kept c.self.invariant.0.rooted,
-      attachments-kept s.store t k.kept s.wraps.attachments s.book.book c.self.invariant.1,
+      attachments-kept s.store t k.kept s.registry.parts.attachments c.self.invariant.1,
     )
     (accepted-thrown (the_view s) s.store t s.scopes c.args.code c.args.message c.in_ok-error.error.0 known
     (thrown-heap s.store t s.scopes c.args.code c.args.message k.kept.numbers c.self.invariant.0.live k.made k.graph) k.number))

@@ -8,7 +8,7 @@ returns-in-Some c =
     let k = c.in-Ok.ensures in
     rw (← c.self.view_is)
     (rw c.plain-in-Some.ensures
-    (unwrap-answers (the_view s) s.store k.sound s.wraps.attachments s.book.book c.self.invariant.1 c.args.object c.in-Ok.value.0 k.live k.number c.in-Some.payload k.refusal c.in-Some.ensures))
+    (unwrap-answers (the_view s) s.store k.sound s.registry.parts.attachments c.self.invariant.1 c.args.object c.in-Ok.value.0 k.live k.number c.in-Some.payload k.refusal c.in-Some.ensures))
 
 pub returns-in-None : goal.returns-in-None
 returns-in-None c =
@@ -16,4 +16,4 @@ returns-in-None c =
     let k = c.in-Ok.ensures in
     rw (← c.self.view_is)
     (rw c.plain-in-None.ensures
-    (unwrap-refused (the_view s) s.store k.sound s.wraps.attachments s.book.book c.self.invariant.1 c.args.object c.in-Ok.value.0 k.live k.number k.refusal c.in-None.ensures))
+    (unwrap-refused (the_view s) s.store k.sound s.registry.parts.attachments c.self.invariant.1 c.args.object c.in-Ok.value.0 k.live k.number k.refusal c.in-None.ensures))
