@@ -1,5 +1,5 @@
 -- The roots of thread-safe functions.
-use Rattle.std.specs.Prelude.{◌≡◌, ℕ, ◌<◌, List, ◌++◌, length, map}
+use Rattle.std.specs.Prelude.{◌≡◌, ℕ, ◌+◌, ◌*◌, ◌<◌, ◌≤◌, ◌==◌, Bool, true, not, List, ◌++◌, length, map, filter, slice_index_or}
 use Rattle.std.specs.List.{All}
 use Rattle.napi_types.specs.declared.ids.HandleId.{HandleId}
 use Rattle.napi_types.specs.plain.Lists.{one, as_map}
@@ -12,9 +12,29 @@ use Rattle.env_core.specs.declared.function_roots.RootRow.{RootRow}
 abbrev pub root_of_row : RootRow → FunctionRoot
 root_of_row r = record { function = r.function.0; value = r.value.0 }
 
--- the numbers of the functions rise, so that no function has two roots
-abbrev pub AreRising : List FunctionRoot → Type 0
-AreRising roots = as_map (λ r. r.function) roots ≡ roots
+-- the roots of rows, in their order: those that are kept
+abbrev pub kept_roots : List RootRow → List FunctionRoot
+kept_roots rows = map root_of_row (filter (λ r. r.kept) rows)
+
+-- the root of another function
+abbrev pub is_of_another : ℕ → FunctionRoot → Bool
+is_of_another n r = not (r.function == n)
+
+-- the numbers of the functions rise, so that no function has two rows
+abbrev pub AreRising : List RootRow → Type 0
+AreRising rows = as_map (λ r. r.function.0) rows ≡ rows
+
+-- the row at a place is kept, and is that of the function
+pub record IsKeptAt (rows : List RootRow) (n at : ℕ) : Type 0 where
+  pub inside : at < length rows
+  pub kept : (d : RootRow) → (slice_index_or rows at d).kept ≡ true
+  pub same : (d : RootRow) → (slice_index_or rows at d).function.0 ≡ n
+
+-- of the rows so many are not kept, half of all at most, and their numbers rise where that is told
+pub record AreRootRows (rows : List RootRow) (dropped : ℕ) (rises : Bool) : Type 0 where
+  pub counted : length (kept_roots rows) + dropped ≡ length rows
+  pub few : 2 * dropped ≤ length rows
+  pub rising : rises ≡ true → AreRising rows
 
 -- a root has the creation number of its value, where the store's number is kept
 abbrev pub root_seen : StoreState → FunctionRoot → FunctionRoot

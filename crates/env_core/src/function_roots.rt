@@ -1,10 +1,10 @@
 //! The roots of thread-safe functions.
-ghost use Rattle.std.specs.Prelude.{◌≡◌, ◌+◌, ◌<◌, ◌≤◌, ◌^◌, ◌++◌, ◌==◌, not, [], length, take, map, filter, IsTrue, OnOk};
-ghost use Rattle.std.specs.List.{All, list_any};
+ghost use Rattle.std.specs.Prelude.{◌≡◌, ◌+◌, ◌*◌, ◌<◌, ◌≤◌, ◌^◌, ◌++◌, ◌==◌, not, true, [], None, length, map, filter, IsTrue, IfSome, OnOk};
+ghost use Rattle.std.specs.List.{All};
 ghost use Rattle.std.specs.VecDeque.{deque_len, deque_capacity};
 ghost use Rattle.napi_types.specs.plain.Lists.{one};
 ghost use Rattle.value_store.specs.StoreChanges.{numbers_of};
-ghost use Rattle.env_core.specs.FunctionRooting.{AreRising};
+ghost use Rattle.env_core.specs.FunctionRooting.{kept_roots, AreRising, IsKeptAt, is_of_another};
 
 use napi_types::{NoMemory, TsfnId, ValueId};
 use std::alloc::Global;
@@ -12,32 +12,35 @@ use std::collections::VecDeque;
 use std::marker::Model;
 use std::mem;
 
-/// A thread-safe function, and the value that it keeps alive.
+/// A thread-safe function, and the value that it keeps alive until its root is dropped.
 #[derive(Clone, Copy)]
 struct RootRow {
     function: TsfnId,
     value: ValueId,
+    kept: bool,
 }
 
 /// The values that thread-safe functions keep alive, in the order in which the functions were made.
 #[derive(Drop)]
 pub struct FunctionRoots {
+    // The row of a root that is dropped stays, so that no others move. Once more than half of the rows are such, all such rows go.
     rows: VecDeque<RootRow>,
-    // Whether the functions' numbers rise, as the hub gives them: then the oldest root is found at once.
+    dropped: usize,
+    // Whether the functions' numbers rise, as the hub gives them: then a function's row is found by halves.
     rises: bool,
 }
 
 impl Model for FunctionRoots {
-    ghost use Rattle.std.specs.Prelude.{◌≡◌, true, List, map};
+    ghost use Rattle.std.specs.Prelude.{List};
     ghost use Rattle.napi_types.specs.environment.Environment.{FunctionRoot};
 
     ghost Value = { List FunctionRoot };
 
-    ghost use Rattle.env_core.specs.FunctionRooting.{root_of_row, AreRising};
+    ghost use Rattle.env_core.specs.FunctionRooting.{kept_roots, AreRootRows};
 
-    ghost view = { λ r. map root_of_row r.rows.items };
+    ghost view = { λ r. kept_roots r.rows.items };
 
-    ghost invariant = { λ r. r.rises ≡ true → AreRising (map root_of_row r.rows.items) };
+    ghost invariant = { λ r. AreRootRows r.rows.items r.dropped r.rises };
 }
 
 /// The memory for roots, which contracts see as the number of roots for which it is enough. It is taken before a function is made,
@@ -89,13 +92,15 @@ impl FunctionRoots {
     {
         FunctionRoots {
             rows: VecDeque::new(alloc),
+            dropped: 0,
             rises: true,
         }
     }
 
-    /// How many roots there are.
-    pub fn len(&self) -> usize
-        ensures count { result ≡ length self.now }
+    /// For how many roots there are rows: for all of them, and for at most as many again that were dropped.
+    pub fn places(&self) -> usize
+        ensures enough { length self.now ≤ result }
+        ensures few { result ≤ 2 * length self.now }
         ensures fits { result < 2 ^ 63 }
     {
         self.rows.len()
@@ -108,21 +113,37 @@ impl FunctionRoots {
         requires { length self.old < room.old }
         ensures { self.new ≡ self.old ++ one (record { function = function.0; value = value.0 }) }
     {
-        self.rises = self.rises && self.is_above_newest(function);
+        if room.rows.capacity() <= self.rows.len() {
+            close_up(&mut self.rows);
+            self.dropped = 0;
+        }
+        self.rises = self.rises && is_above_newest(&self.rows, function);
         make_place(&mut self.rows, room);
-        self.rows.push_back_reserved(RootRow { function, value });
+        self.rows.push_back_reserved(RootRow {
+            function,
+            value,
+            kept: true,
+        });
     }
 
     /// Drops the root of a function, where it has one.
     ///
-    /// Constant time where it is the oldest, as where functions finish in the order of their numbers; else linear in the roots.
+    /// In time logarithmic in how many roots there are, as the functions' numbers rise. Now and then the rows of dropped roots go, in
+    /// time linear in the rows.
     pub fn remove(&mut self, function: TsfnId)
         ensures { self.new ≡ filter (λ r. not (r.function == function.0)) self.old }
     {
-        if self.rises && self.is_of_oldest(function) {
-            let _ = self.rows.pop_front();
-        } else {
-            self.rows.retain(|row| row.function.0 != function.0);
+        if !self.rises {
+            self.rows
+                .retain(|row| row.kept && row.function.0 != function.0);
+            self.dropped = 0;
+        } else if let Some(at) = kept_at(&self.rows, function) {
+            self.rows[at].kept = false;
+            self.dropped += 1;
+            if self.dropped > self.rows.len() / 2 {
+                close_up(&mut self.rows);
+                self.dropped = 0;
+            }
         }
     }
 
@@ -131,30 +152,42 @@ impl FunctionRoots {
         ensures { OnOk result (numbers_of values.new.items ≡ numbers_of values.old.items ++ map (λ r. r.value) self.now) }
     {
         for at in 0..self.rows.len() {
-            values.push(self.rows[at].value)?;
+            let row = self.rows[at];
+            if row.kept {
+                values.push(row.value)?;
+            }
         }
         Ok(())
     }
+}
 
-    /// Whether a function's number is above that of the newest root, where there is one.
-    fn is_above_newest(&self, function: TsfnId) -> bool
-        ensures { IsTrue result → AreRising self.now → All (λ r. r.function < function.0) self.now }
-    {
-        match self.rows.back() {
-            Some(newest) => newest.function.0 < function.0,
-            None => true,
-        }
+/// Whether a function's number is above that of the newest row, where there is one.
+fn is_above_newest(rows: &VecDeque<RootRow>, function: TsfnId) -> bool
+    ensures { IsTrue result → AreRising rows.now.items → All (λ r. r.function.0 < function.0) rows.now.items }
+{
+    match rows.back() {
+        Some(newest) => newest.function.0 < function.0,
+        None => true,
     }
+}
 
-    /// Whether the oldest root is that of the function.
-    fn is_of_oldest(&self, function: TsfnId) -> bool
-        ensures { result ≡ list_any (λ r. r.function == function.0) (take 1 self.now) }
-    {
-        match self.rows.front() {
-            Some(oldest) => oldest.function.0 == function.0,
-            None => false,
-        }
+/// The place of the row of a function, `None` exactly where its root is dropped and where it has no row.
+fn kept_at(rows: &VecDeque<RootRow>, function: TsfnId) -> Option<usize>
+    requires { AreRising rows.now.items }
+    ensures kept { IfSome result (λ at. IsKeptAt rows.now.items function.0 at) }
+    ensures none { result ≡ None → All (λ r. is_of_another function.0 r ≡ true) (kept_roots rows.now.items) }
+{
+    match rows.binary_search_by_key(&function.0, |row| row.function.0) {
+        Ok(at) if rows[at].kept => Some(at),
+        _ => None,
     }
+}
+
+/// The rows of dropped roots go. It takes no memory.
+fn close_up(rows: &mut VecDeque<RootRow>)
+    ensures items { rows.new.items ≡ filter (λ r. r.kept) rows.old.items }
+{
+    rows.retain(|row| row.kept);
 }
 
 /// Makes a place for one row more, where there is room for it: where the rows fill their places, they move into those of the room.

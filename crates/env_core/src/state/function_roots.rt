@@ -16,7 +16,7 @@ impl State {
         ensures place { OnOk result (HasRootPlace room.new self.now) }
         ensures kept { room.old ≤ room.new }
     {
-        room.reserve(self.function_roots.len())
+        room.reserve(self.function_roots.places())
     }
 
     /// A function that was made keeps the value of a handle alive, until its root is dropped. It takes no memory: there is room.
@@ -32,7 +32,7 @@ impl State {
 
     /// A function keeps no value alive any more.
     ///
-    /// Constant time where no older function does, else linear in how many do.
+    /// In time logarithmic in how many functions do, and now and then linear.
     pub fn drop_root(&mut self, function: TsfnId)
         ensures { self.new ≡ without_root function.0 self.old }
     {

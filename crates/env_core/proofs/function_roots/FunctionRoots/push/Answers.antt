@@ -1,24 +1,35 @@
-use Rattle.std.proofs.Common.{◌≡◌, ◌∙◌, ◌++◌, ◌<◌, List, map, sym, subst}
+use Rattle.std.proofs.Common.{◌≡◌, ◌∙◌, ◌++◌, ◌<◌, true, refl, ap, sym}
 use Rattle.std.specs.List.{All}
 use Rattle.napi_types.specs.plain.Lists.{one}
-use Rattle.napi_types.specs.environment.Environment.{FunctionRoot}
 use Rattle.env_core.specs.declared.function_roots.RootRow.{RootRow}
-use Rattle.env_core.specs.FunctionRooting.{root_of_row, AreRising}
-use Rattle.env_core.proofs.FunctionRooting.{rising-pushed, rows-pushed}
-use Rattle.env_core.proofs.function_roots.FunctionRoots.push.Goals.{then-self, else-self}
+use Rattle.env_core.specs.FunctionRooting.{root_of_row, kept_roots, AreRootRows}
+use Rattle.env_core.proofs.FunctionRooting.{rows-closed, closed-kept, rows-pushed, kept-pushed}
+use Rattle.env_core.proofs.function_roots.FunctionRoots.push.Goals.{then-capacity-len, else-capacity-len, then-self, else-self}
 use Rattle.env_core.proofs.function_roots.FunctionRoots.push.Goals as goal
 
 pub invariant_of-self : goal.invariant_of-self
 invariant_of-self c =
-    let roots : List FunctionRoot = map root_of_row c.self.inside.rows.items in
-    let row : RootRow = record { function = c.args.function; value = c.args.value } in
-    let pushed : map root_of_row c.push_back_reserved.new.self.items ≡ roots ++ one (root_of_row row) =
-    rows-pushed c.self.inside.rows.items c.make_place.new.rows.items c.push_back_reserved.new.self.items row c.make_place.ensures.items c.push_back_reserved.ensures.items in
+    let m = c.if-capacity-len.self-inside in
+    let row : RootRow = record { function = c.args.function; value = c.args.value; kept = true } in
+    let were : AreRootRows m.rows.items m.dropped m.rises =
+    elim c.if-capacity-len.branch [
+      | then-capacity-len w ↦ rw (w.self-inside-is, w.close_up.ensures.items) (rows-closed c.self.inside.rows.items c.self.inside.rises c.self.invariant.rising)
+      | else-capacity-len w ↦ rw w.self-inside-is c.self.invariant
+    ] in
+    let above : c.if-self.self ≡ true → (m.rises ≡ true) × All (λ q. q.function.0 < c.args.function.0) m.rows.items =
     λ rises. elim c.if-self.branch [
-      | then-self w ↦
-          let rising : AreRising roots = c.self.invariant w.if-self.true in
-          let P : List FunctionRoot → Type 0 = λ l. AreRising l → All (λ r. r.function < c.args.function.0) l in
-          let above : P roots = subst P (sym c.self.view_is) (w.is_above_newest-self-inside.ensures (sym w.self-is ∙ rises)) in
-          subst AreRising (sym pushed) (rising-pushed roots (root_of_row row) rising (above rising))
+      | then-self w ↦ (w.if-self.true, w.is_above_newest-self-inside.ensures (sym w.self-is ∙ rises) (were.rising w.if-self.true))
       | else-self w ↦ let no : ⊥ = cc (rises, w.self-is) in absurd no
-    ]
+    ] in
+    rw (c.push_back_reserved.ensures.items, c.make_place.ensures.items) (rows-pushed m.rows.items row m.dropped m.rises c.if-self.self were refl above)
+
+pub returns : goal.returns
+returns c =
+    let m = c.if-capacity-len.self-inside in
+    let row : RootRow = record { function = c.args.function; value = c.args.value; kept = true } in
+    let same : kept_roots m.rows.items ≡ c.args.self.now =
+    elim c.if-capacity-len.branch [
+      | then-capacity-len w ↦ rw (w.self-inside-is, w.close_up.ensures.items) (closed-kept c.self.inside.rows.items ∙ c.self.view_is)
+      | else-capacity-len w ↦ rw w.self-inside-is c.self.view_is
+    ] in
+    rw (c.push_back_reserved.ensures.items, c.make_place.ensures.items) (kept-pushed m.rows.items row refl ∙ ap (λ l. l ++ one (root_of_row row)) same)

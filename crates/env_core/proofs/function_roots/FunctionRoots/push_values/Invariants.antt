@@ -1,7 +1,8 @@
 use Rattle.std.proofs.Common.{◌≡◌, ◌++◌, map, take}
 use Rattle.value_store.specs.StoreChanges.{numbers_of}
+use Rattle.env_core.specs.FunctionRooting.{kept_roots}
 use Rattle.env_core.proofs.function_roots.FunctionRoots.push_values.Given as goal
 
 -- the values of the roots that were passed are pushed
 abbrev pub invariant-loop-at : goal.invariant-loop-at
-invariant-loop-at l = numbers_of l.values.items ≡ numbers_of l.fn.values.items ++ map (λ r. r.value.0) (take l.at l.self-inside.rows.items)
+invariant-loop-at l = numbers_of l.values.items ≡ numbers_of l.fn.values.items ++ map (λ r. r.value) (kept_roots (take l.at l.self-inside.rows.items))

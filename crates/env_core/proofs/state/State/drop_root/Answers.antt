@@ -2,9 +2,9 @@ use Rattle.std.proofs.Common.{◌∙◌, List, ap, sym, subst}
 use Rattle.std.proofs.lemmas.List.Elements.{All-filter}
 use Rattle.napi_types.specs.environment.Environment.{FunctionRoot}
 use Rattle.napi_types.specs.parts.Graph.{IsLive}
-use Rattle.env_core.specs.FunctionRooting.{function_roots_seen, RootsAreLive}
+use Rattle.env_core.specs.FunctionRooting.{is_of_another, function_roots_seen, RootsAreLive}
 use Rattle.env_core.specs.contracts.state.State.{the_view}
-use Rattle.env_core.proofs.FunctionRooting.{is_of_another, seen-dropped}
+use Rattle.env_core.proofs.FunctionRooting.{seen-dropped}
 use Rattle.env_core.proofs.state.State.drop_root.Goals as goal
 
 pub invariant_of-self : goal.invariant_of-self
