@@ -215,7 +215,7 @@ pub went-at-hub : (n : Numbers) (plans later : List Plan) (r : HubTurn) (old owi
     → FitsHub new after → SpentAtFinals before.hub after.hub
     → RunKeeps n plans (record { run = old; hub = before; addons = all }) (record { run = owing; hub = before; addons = mid })
     → RunKeeps n later (record { run = owing; hub = before; addons = mid }) (record { run = new; hub = after; addons = now })
-    → EnvironmentSteps n plans false (record { run = old; hub = before; addons = all }) (record { run = new; hub = after; addons = now })
+    → EnvironmentSteps n plans local.NeedsHub (record { run = old; hub = before; addons = all }) (record { run = new; hub = after; addons = now })
 went-at-hub n plans later r old owing new before after all mid now registers seen same led a t fits spent first second = record {
   led = led;
   turn = came.turn;
@@ -226,6 +226,7 @@ went-at-hub n plans later r old owing new before after all mid now registers see
   spent = spent;
   was = λ is. cc;
   falls = λ is. came.falls;
+  alone = λ is. cc;
 }
   where
     came : ComesNearer n plans (record { run = old; hub = before; addons = all }) (record { run = new; hub = after; addons = now })
@@ -250,7 +251,7 @@ pub went-alone : (n : Numbers) (plans : List Plan) (old new : Run) (before : Hub
     → OneMore old.core.journal new.core.journal → new.ending ≡ None → length old.core.journal < old.core.limit → (IsTrue (owes_hub old) → new ≡ old)
     → HasSeen all.seen (option_to_list (begins_next old.core.env)) now.seen → OnlyInnermostChanges old.core.env.frames new.core.env.frames all.registers now.registers
     → FitsHub new before → RunKeeps n plans (record { run = old; hub = before; addons = all }) (record { run = new; hub = before; addons = now })
-    → EnvironmentSteps n plans false (record { run = old; hub = before; addons = all }) (record { run = new; hub = before; addons = now })
+    → EnvironmentSteps n plans local.Made (record { run = old; hub = before; addons = all }) (record { run = new; hub = before; addons = now })
 went-alone n plans old new before all now led made one paid room once seen untouched fits kept = record {
   led = led;
   turn = inl (record { unowed = made-unowed old new (owes_hub old) refl once one; turn = made; one = one; paid = paid; hub = refl; seen = seen; untouched = untouched });
@@ -258,8 +259,8 @@ went-alone n plans old new before all now led made one paid room once seen untou
   kept = kept;
   spent = λ final. inl final;
   was = λ is. cc;
-  falls = λ is. inl (less _ _ _ _ _ (one_if (is_none new.ending)) (one_if (is_none old.ending)) kept.limit (ap length one.last ∙ length-append old.core.journal (one.entry ∷ [])) room
-      (one-if-within new.ending));
+  falls = λ is. inl fallen;
+  alone = λ is. (refl, fallen);
 }
   where
     one-if-within : (o : Option FrameEnd) → one_if (is_none o) ≤ 1
@@ -268,3 +269,8 @@ went-alone n plans old new before all now led made one paid room once seen untou
 
     less : (h limit new-limit a b e f : ℕ) → new-limit ≡ limit → b ≡ a + 1 → a < limit → e ≤ 1 → 2 * ((new-limit - b) + h) + e < 2 * ((limit - a) + h) + f
     less h limit new-limit a b e f same more room within = omega (arith, same, more, room, within)
+
+    fallen : measure n new before < measure n old before
+    fallen =
+        less _ _ _ _ _ (one_if (is_none new.ending)) (one_if (is_none old.ending)) kept.limit (ap length one.last ∙ length-append old.core.journal (one.entry ∷ [])) room
+        (one-if-within new.ending)

@@ -4,4 +4,5 @@ mod EnvironmentTurns
 mod ListTurns
 mod Openings
 mod OrderedTurns
+mod Resting
 mod RoundSteps

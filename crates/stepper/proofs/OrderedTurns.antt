@@ -28,6 +28,7 @@ use Rattle.env_loop.specs.Recording.{AddonStates}
 use Rattle.env_loop.specs.RecordedRuns.{Run, FitsHub}
 use Rattle.env_loop.specs.declared.actor.ActorRun.{ActorRun}
 use Rattle.env_loop.specs.declared.actor.ActorRun.TheVariants as run
+use Rattle.env_loop.specs.declared.turn.LocalTurn.{LocalTurn}
 use Rattle.env_loop.proofs.ActorsStand.{thread-runs-stand, worker-runs-stand}
 use Rattle.env_loop.proofs.FollowedRuns.{fitting-runs-stand, others-may-add}
 use Rattle.env_loop.proofs.SameActors.{same-actor-none, same-actor-then}
@@ -164,9 +165,9 @@ module _ {J : Type 0} where
   env-stand n plans old new xs led (inr (inr (inr (inl m)))) stand = same-stand n old.hub new.hub xs m.hub stand
   env-stand n plans old new xs led (inr (inr (inr (inr m)))) stand = same-stand n old.hub new.hub xs (ap (λ (r : RunAtHub). r.hub) m.same) stand
 
-  pub environment-step : (n : Numbers) (plans : List Plan) (gone : Bool) (old new : RunAtHub) (actors : List (ActorRun J)) → Stands n (moment_of old actors)
-      → EnvironmentSteps n plans gone old new → Steps n plans (one actor.Env) (moment_of old actors) (moment_of new actors)
-  environment-step n plans gone old new actors stands went = record {
+  pub environment-step : (n : Numbers) (plans : List Plan) (turn : LocalTurn) (old new : RunAtHub) (actors : List (ActorRun J)) → Stands n (moment_of old actors)
+      → EnvironmentSteps n plans turn old new → Steps n plans (one actor.Env) (moment_of old actors) (moment_of new actors)
+  environment-step n plans turn old new actors stands went = record {
     turns = (moment_of new actors, record { turn = went.turn; goes = went.kept.goes; actors = refl }, refl);
     lists = λ s scripts firsts numbers of followed has.
         (lists_at (moment_of new actors), lists-turn n plans old new s firsts numbers went.led followed (went.kept.goes s firsts numbers of followed) went.turn, refl);
@@ -204,7 +205,7 @@ module _ {J : Type 0} where
       by j inside false is = subst P (sym (get_or-set_other xs i j a a (apart j i is))) (others j inside (apart j i is))
 
   module _ (n : Numbers) (m : Moment J) (place : ℕ) (actors : List (ActorRun J)) (after : HubSeen) (stands : Stands n m) (inside : place < length m.actors)
-      (s : ActorSteps n place m.actors m.env.hub actors after) where
+      {made : Bool} (s : ActorSteps n place made m.actors m.env.hub actors after) where
     abbrev before : HubSeen
     before = m.env.hub
 

@@ -75,8 +75,9 @@ pub fn step_all<J: Job, N: Naming>(
     let (before, after) = around_opening(schedule);
     give_turns(env, hub, actors, before, addons, threads);
     give_turns(env, hub, actors, after, addons, threads);
+    let mut resting = false;
     'rounds: loop {
-        if round(env, hub, actors, addons) {
+        if round(env, hub, actors, addons, &mut resting) {
             hub.knows();
             return;
         }

@@ -24,7 +24,7 @@ actor_turn-requires-in-Worker-clause-inside g c κs within =
     omega (arith, at, c.requires.threads, actors-count g.N.Naming.numbers c.args.actors.now.items c.requires.stands.actors.order)
 
 pub returns-in-Env-clause-went : goal.returns-in-Env-clause-went
-returns-in-Env-clause-went g c = rw c.in-Env.is (environment-step _ _ _ _ _ _ c.requires.stands c.environment_turn-gone.ensures.went)
+returns-in-Env-clause-went g c = rw c.in-Env.is (environment-step _ _ _ _ _ _ c.requires.stands c.environment_turn.ensures.went)
 
 pub returns-in-Thread-clause-went : goal.returns-in-Thread-clause-went
 returns-in-Thread-clause-went g c =

@@ -1,11 +1,12 @@
-use Rattle.std.proofs.Common.{◌≡◌, ◌∷◌, ℕ, List, Option, length, map, take}
+use Rattle.std.proofs.Common.{◌≡◌, ◌∷◌, ℕ, true, List, Option, length, map, take}
+use Rattle.std.specs.List.{All}
 use Rattle.napi_types.specs.declared.duties.DueInfo.{DueInfo}
 use Rattle.napi_types.specs.declared.entry.Actor.TheVariants as actor
 use Rattle.napi_types.specs.declared.op.Op.{Op}
 use Rattle.addon_trait.specs.Addons.{TellSamePlans}
 use Rattle.stepper.specs.TakingPart.{actors_of}
 use Rattle.stepper.specs.GivenTurns.{run_at, moment_of}
-use Rattle.stepper.specs.Stepping.{Steps}
+use Rattle.stepper.specs.Stepping.{RestsAt, Steps}
 use Rattle.stepper.proofs.RoundSteps.{Progress}
 use Rattle.stepper.proofs.round.round.Given as goal
 
@@ -23,5 +24,6 @@ invariant-loop-place g l =
       many : length l.actors.items ≡ length l.fn.actors.items;
       went : Steps g.N.Naming.numbers first_plans (actor.Env ∷ take l.place (actors_of g.N.Naming.numbers))
           (moment_of (run_at l.fn.env l.fn.hub first_regs first_seen) l.fn.actors.items) (moment_of (run_at l.env l.hub regs seen) l.actors.items);
+      rest : l.resting ≡ true → All (RestsAt g.N.Naming.numbers l.hub) (take l.place l.actors.items);
       progress : Progress g.N.Naming.numbers (run_at l.fn.env l.fn.hub first_regs first_seen) (run_at l.env l.hub regs seen) (take l.place l.actors.items);
     }

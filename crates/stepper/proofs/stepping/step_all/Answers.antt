@@ -1,6 +1,6 @@
-use Rattle.std.proofs.Common.{◌≡◌, ◌∙◌, true, sym, subst, suc}
+use Rattle.std.proofs.Common.{◌≡◌, true, sym, subst, suc}
 use Rattle.std.specs.List.{All}
-use Rattle.addon_trait.proofs.SamePlans.{plans-none, plans-then}
+use Rattle.addon_trait.proofs.SamePlans.{plans-then}
 use Rattle.env_loop.specs.ActorTurns.{is_over, IsActorAt}
 use Rattle.stepper.specs.GivenTurns.{Moment}
 use Rattle.stepper.proofs.Openings.{start-stands, gone-over, ended-at-last, arose-at-last}
@@ -22,6 +22,7 @@ pub rounds-init : goal.rounds-init
 rounds-init g c = record {
   plans = plans-then _ _ _ _ c.give_turns.ensures.plans c.give_turns-2.ensures.plans;
   went = (0, schedule-steps _ _ _ _ _ _ _ _ _ c.around_opening.ensures c.give_turns.ensures.went c.give_turns.ensures.plans.same c.give_turns-2.ensures.went);
+  rest = λ is. cc;
 }
 
 pub rounds-preserved : goal.rounds-preserved
@@ -31,6 +32,7 @@ rounds-preserved g c =
     record {
       plans = plans-then _ _ _ _ i.plans k.plans;
       went = (suc i.went.0, rounds-steps _ _ _ _ _ _ _ _ i.went.1 i.plans.same (k.went.steps c.if-round.false));
+      rest = k.rest;
     }
 
 pub returns-then-round-clause-over : goal.returns-then-round-clause-over
