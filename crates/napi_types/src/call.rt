@@ -210,6 +210,7 @@ pub struct Facts {
 
 impl Call {
     /// The call's row in the table of calls: its group, whether it is guarded, whether it registers, and how many places it needs.
+    #[inline(always)]
     pub fn facts(&self) -> Facts
         ensures { AreFactsOf result self.now }
     {
