@@ -14,31 +14,19 @@ use handle_scope::Scopes;
 use napi_types::{Call, HandleId, Out, TextNo};
 use value_store::Store;
 
-/// The handle of the value of which a call tells: the one handle that it names.
-fn told(call: &Call) -> HandleId
-    requires { is_telling call.now ≡ true }
-    ensures { handles_of call.now ≡ result.0 ∷ [] }
-{
-    match *call {
-        Call::Typeof(value)
-        | Call::IsArray(value)
-        | Call::IsError(value)
-        | Call::GetValueInt64(value)
-        | Call::GetValueBigintInt64(value)
-        | Call::GetValueBool(value)
-        | Call::GetValueStringUtf8(value)
-        | Call::GetValueExternal(value) => value,
-        _ => unreachable!(),
-    }
-}
-
-/// The calls that tell what one value is: `typeof`, `is_array`, `is_error` and `get_value_*`.
-pub(crate) fn tell(store: &Store, scopes: &Scopes, call: &Call) -> Result<Out, Stop>
+/// The calls that tell what one value is: `typeof`, `is_array`, `is_error` and `get_value_*`. `value` is the one handle that the call names.
+pub(crate) fn tell(
+    store: &Store,
+    scopes: &Scopes,
+    call: &Call,
+    value: HandleId,
+) -> Result<Out, Stop>
     requires telling { is_telling call.now ≡ true }
+    requires named { handles_of call.now ≡ value.0 ∷ [] }
     requires live { HoldsLive store.now scopes.now }
     ensures comes { let heap = heap_of store.now scopes.now in (texts addon : ℕ) → ComesOf texts addon heap call.now result heap }
 {
-    let value = value_of_handle(store, scopes, told(call))?;
+    let value = value_of_handle(store, scopes, value)?;
     match *call {
         Call::Typeof(_) => Ok(Out::Kind(value.body.kind())),
         Call::IsArray(_) => Ok(Out::Flag(is_array_value(value.body))),

@@ -97,14 +97,14 @@ fn outcome(
     ensures keeps { KeepsHeap store.old scopes.old store.new scopes.new }
 {
     match *call {
-        Call::Typeof(_)
-        | Call::IsArray(_)
-        | Call::IsError(_)
-        | Call::GetValueInt64(_)
-        | Call::GetValueBigintInt64(_)
-        | Call::GetValueBool(_)
-        | Call::GetValueStringUtf8(_)
-        | Call::GetValueExternal(_) => tell(store, scopes, call),
+        Call::Typeof(value)
+        | Call::IsArray(value)
+        | Call::IsError(value)
+        | Call::GetValueInt64(value)
+        | Call::GetValueBigintInt64(value)
+        | Call::GetValueBool(value)
+        | Call::GetValueStringUtf8(value)
+        | Call::GetValueExternal(value) => tell(store, scopes, call, value),
         Call::GetArrayLength(value) => get_array_length(store, scopes, value),
         Call::StrictEquals(left, right) => strict_equals(store, scopes, left, right),
         Call::SetNamedProperty(object, name, value) => {
