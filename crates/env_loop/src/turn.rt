@@ -202,26 +202,51 @@ impl EnvRun {
                     }
                 }
             }
-            Ask::Do(call) => match self.core.step(frame.asks, &call) {
-                Stepped::Reply(reply) => {
-                    note_at(
-                        addons,
-                        frame.addon as usize,
-                        frame.entry,
-                        frame.asks,
-                        &reply,
-                    );
-                    LocalTurn::Made
-                }
-                Stepped::Enter(target, gifts) => {
-                    enter_at(addons, target.addon as usize, target.entry, &gifts);
-                    LocalTurn::Made
-                }
-                Stepped::Shared(_) => LocalTurn::NeedsHub,
-                Stepped::Stop(status) => {
-                    self.end_turn(addons, frame.duty, None, FrameEnd::Cut(why(status)))
-                }
-            },
+            Ask::Do(call) => self.step_turn(addons, frame, &call),
+        }
+    }
+
+    /// Makes the innermost frame's call. A call that stops cuts the frame.
+    // Not put into its caller: a call that is answered at once would have its replies and gifts on the stack.
+    #[inline(never)]
+    fn step_turn(
+        &mut self,
+        addons: &mut Vec<Box<dyn Addon>>,
+        frame: &StandingFrame,
+        call: &Call,
+    ) -> LocalTurn
+        requires sound { IsSoundEnvironment self.old.core.env }
+        requires idle { self.old.core.awaited ≡ None }
+        requires unended { self.old.ending ≡ None }
+        requires enough { self.old.core.env.addons ≤ length addons.old.items }
+        requires stands { head self.old.core.env.frames ≡ Some (machine_frame frame.now) }
+        requires within { frame.now.asks < most_asks }
+        requires asked { IsAskOf (map (λ b. plan b) addons.old.items) (map (λ b. regs b) addons.old.items) (machine_frame frame.now) (Ask.Do call.now) }
+        ensures plans { TellSamePlans (λ b. plan b) addons.old.items addons.new.items }
+        ensures turn { result ≡ turn_after self.new self.old.core.env }
+        ensures goes { let before = states_of (λ b. regs b) (λ b. seen b) addons.old.items in
+            let after = states_of (λ b. regs b) (λ b. seen b) addons.new.items in
+            MatchTurn result (map (λ b. plan b) addons.old.items) self.old before self.new after }
+    {
+        match self.core.step(frame.asks, call) {
+            Stepped::Reply(reply) => {
+                note_at(
+                    addons,
+                    frame.addon as usize,
+                    frame.entry,
+                    frame.asks,
+                    &reply,
+                );
+                LocalTurn::Made
+            }
+            Stepped::Enter(target, gifts) => {
+                enter_at(addons, target.addon as usize, target.entry, &gifts);
+                LocalTurn::Made
+            }
+            Stepped::Shared(_) => LocalTurn::NeedsHub,
+            Stepped::Stop(status) => {
+                self.end_turn(addons, frame.duty, None, FrameEnd::Cut(why(status)))
+            }
         }
     }
 
