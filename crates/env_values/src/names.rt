@@ -26,8 +26,9 @@ fn names(alloc: Global, object: &ValueInfo<'_>) -> Result<Vec<Body>, NoMemory>
     ensures { IfOk result (λ names. names.items ≡ names_of object.now.properties) }
 {
     let mut names = Vec::new(alloc);
-    for at in 0..object.name_count() {
-        names.push(Body::Str(object.name_at(at)))?;
+    let mut properties = object.properties();
+    while let Some((name, _)) = properties.next() {
+        names.push(Body::Str(name))?;
     }
     Ok(names)
 }

@@ -1,8 +1,8 @@
 -- Marks that are set one after another.
-use Rattle.std.proofs.Common.{◌≡◌, ℕ, ◌+◌, ◌<◌, ◌==◌, ◌⊎◌, inl, inr, Bool, true, false, List, [], ◌∷◌, ◌++◌, length, take, get_or, set, Some, slice_index, refl, ap, sym, subst, ◌∙◌, arith}
+use Rattle.std.proofs.Common.{◌≡◌, ℕ, ◌+◌, ◌<◌, ◌==◌, ◌⊎◌, inl, inr, Bool, true, false, List, [], ◌∷◌, ◌++◌, length, take, get_or, set, Some, refl, ap, sym, subst, ◌∙◌, arith}
 use Rattle.std.specs.List.{All}
 use Rattle.std.proofs.lemmas.Bool.{cases_eq, or_left, eq-eqb}
-use Rattle.std.proofs.lemmas.List.{get_or-map, get_or-set_same, get_or-set_other, length-append, length-map, length-set, take_more}
+use Rattle.std.proofs.lemmas.List.{get_or-map, get_or-set_same, get_or-set_other, append_assoc, append-nil, length-append, length-map, length-set}
 use Rattle.std.proofs.lemmas.List.Elements.{All-cons, All-nil, All-append, All-weaker}
 use Rattle.napi_types.specs.declared.ids.ValueId.{ValueId}
 use Rattle.napi_types.specs.plain.Lists.{has_number, HaveSameNumbers}
@@ -12,7 +12,7 @@ use Rattle.value_store.specs.StoreChanges.{id_at, numbers_of, StandsAt}
 use Rattle.value_store.proofs.Clearing.{numbers_of-more}
 use Rattle.value_store.proofs.NamedPlaces.{All-has, All-from_has}
 use Rattle.mark_bits.specs.PlaceMarks.{is_marked}
-use Rattle.trace_collect.specs.MarkedValues.{unmarked_count, IsMarked, Marks}
+use Rattle.trace_collect.specs.MarkedValues.{unmarked_count, IsMarked, Marks, MarksUpTo}
 use Rattle.trace_collect.proofs.MarkMembers.{has-cases}
 use Rattle.trace_collect.proofs.Unmarked.{unmarked-set}
 
@@ -103,10 +103,18 @@ marks-next s ids i d a b c k l m less before more =
     subst (λ ns. Marks s ns a k c m) (sym (numbers_of-more ids i d less)) (marks-then s (numbers_of (take i ids)) ((get_or ids i d).0 ∷ []) a b c k l m before more)
 
 -- one child more
-pub child-next : (s : StoreState) (ns : List ℕ) (i n : ℕ) (a b c : List Bool) (k l m : List ℕ) → i < length ns → n ≡ slice_index ns i
-    → Marks s (take i ns) a k b l → Marks s (n ∷ []) b l c m → Marks s (take (i + 1) ns) a k c m
-child-next s ns i n a b c k l m less is before more =
-    subst (λ js. Marks s js a k c m) (ap (λ j. take i ns ++ j ∷ []) is ∙ sym (take_more ns i 0 less)) (marks-then s (take i ns) (n ∷ []) a b c k l m before more)
+pub child-next : (s : StoreState) (ids rest next : List ℕ) (n : ℕ) (a b c : List Bool) (k l m : List ℕ) → rest ≡ n ∷ next
+    → MarksUpTo s ids rest a k b l → Marks s (n ∷ []) b l c m → MarksUpTo s ids next a k c m
+child-next s ids rest next n a b c k l m is so_far more = record {
+  before = so_far.before ++ n ∷ [];
+  whole = so_far.whole ∙ ap (λ ns. so_far.before ++ ns) is ∙ sym (append_assoc so_far.before (n ∷ []) next);
+  marks = marks-then s so_far.before (n ∷ []) a b c k l m so_far.marks more;
+}
+
+-- no child is left
+pub children-done : (s : StoreState) (ids rest : List ℕ) (a b : List Bool) (k l : List ℕ) → rest ≡ [] → MarksUpTo s ids rest a k b l → Marks s ids a k b l
+children-done s ids rest a b k l none so_far =
+    subst (λ ns. Marks s ns a k b l) (sym (so_far.whole ∙ ap (λ ns. so_far.before ++ ns) none ∙ append-nil so_far.before)) so_far.marks
 
 -- marks tell the numbers of a list alone
 pub marks-same : (s : StoreState) (ms ns : List ℕ) (a b : List Bool) (k l : List ℕ) → HaveSameNumbers ms ns → Marks s ms a k b l → Marks s ns a k b l

@@ -1,5 +1,5 @@
 -- Which places of a store are marked, and which values are left to follow.
-use Rattle.std.specs.Prelude.{◌≡◌, ◌⊎◌, ℕ, ◌+◌, Bool, true, if◌then◌else◌, List, [], length, filter_map, Some, None}
+use Rattle.std.specs.Prelude.{◌≡◌, ◌⊎◌, ℕ, ◌+◌, Bool, true, if◌then◌else◌, List, [], ◌++◌, length, filter_map, Some, None}
 use Rattle.std.specs.List.{All, range_with_len}
 use Rattle.napi_types.specs.plain.Lists.{has_number}
 use Rattle.napi_types.specs.parts.Graph.{StoreState, IsLive, number_in}
@@ -36,6 +36,12 @@ pub record Marks (s : StoreState) (ids : List ℕ) (old : List Bool) (old_left :
   pub left : (id : ℕ) → has_number id new_left ≡ true → (has_number id old_left ≡ true) ⊎ (has_number id ids ≡ true)
   pub room : length new_left + unmarked_count s new ≡ length old_left + unmarked_count s old
   pub size : length new ≡ length old
+
+-- of a list of numbers those before the rest are marked
+pub record MarksUpTo (s : StoreState) (ids rest : List ℕ) (old : List Bool) (old_left : List ℕ) (new : List Bool) (new_left : List ℕ) : Type 0 where
+  pub before : List ℕ
+  pub whole : ids ≡ before ++ rest
+  pub marks : Marks s before old old_left new new_left
 
 -- the roots are marked, what is marked is reached, what is marked and not left to follow has its children marked, and what is left is live and marked
 pub record IsMarking (s : StoreState) (roots : List ℕ) (marks : List Bool) (left : List ℕ) : Type 0 where

@@ -98,9 +98,9 @@ fn mark_children(store: &Store, id: ValueId, marks: &mut Bits, left: &mut Vec<Va
     ensures marked { Marks store.now (children_in store.now id.0) marks.old (numbers_of left.old.items) marks.new (numbers_of left.new.items) }
     ensures capacity { vec_capacity left.new ≡ vec_capacity left.old }
 {
-    let children = store.children(id);
-    for place in 0..children.len() {
-        mark(store, children.at(place), marks, left);
+    let mut children = store.children(id);
+    while let Some(child) = children.next() {
+        mark(store, child, marks, left);
     }
 }
 

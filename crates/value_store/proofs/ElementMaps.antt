@@ -1,9 +1,9 @@
 -- Laws on the map from indices to values as a list of elements, and on the values that a value's maps have.
-use Rattle.std.proofs.Common.{◌≡◌, ◌≢◌, ℕ, zero, suc, ◌+◌, ◌-◌, ◌<◌, ◌≤◌, ◌==◌, ◌||◌, max, nat_eq, Bool, true, false, cond, List, [], ◌∷◌, ◌++◌, map, length, get_or, slice_get, slice_index, set, replicate, Option, Some, None, IsSome, option_map, inl, inr, refl, ap, sym, subst, ◌∙◌, arith, append-nil, length-append, length-set, get_or-set_same, get_or-set_other, ext_get_or}
+use Rattle.std.proofs.Common.{◌≡◌, ◌≢◌, ℕ, zero, suc, ◌+◌, ◌-◌, ◌<◌, ◌≤◌, ◌==◌, ◌||◌, max, nat_eq, Bool, true, false, cond, List, [], ◌∷◌, ◌++◌, map, length, get_or, set, replicate, Option, Some, None, IsSome, option_map, inl, inr, refl, ap, sym, subst, ◌∙◌, arith, append-nil, length-append, length-set, get_or-set_same, get_or-set_other, ext_get_or}
 use Rattle.std.specs.List.{IsDistinct, AllByRecursion, range_with_len, filter_map}
 use Rattle.std.specs.Map.{keys_of, lookup}
 use Rattle.std.proofs.lemmas.Bool.{cases_lt, eq-eqb}
-use Rattle.std.proofs.lemmas.List.{get_or_past, get_or-append_right, length-replicate, set-append_right}
+use Rattle.std.proofs.lemmas.List.{get_or_past, length-replicate, set-append_right}
 use Rattle.std.proofs.lemmas.List.Folds.{list_any-append}
 use Rattle.std.proofs.lemmas.List.FromFn.{get_or-map-range_with_len, length-map-range_with_len, map-range_with_len_more}
 use Rattle.std.proofs.lemmas.Map.Keys.{IsDistinct-head, IsDistinct-tail}
@@ -111,27 +111,6 @@ array-next number first at =
     (element_set-next at (first + at) (map Some (range_with_len first at)) (length-map-range_with_len Some first at) ∙ sym (map-range_with_len_more Some first at (first + at) refl))
 
 -- CHILDREN
--- the number of an entry's value, where the entry stands
-pub number-at : (es : List (ℕ × ValueId)) (at : ℕ) (e : ℕ × ValueId) → Some e ≡ slice_get es at → e.1.0 ≡ slice_index (numbers_in es) at
-number-at [] at e is = let no : ⊥ = cc in absurd no
-number-at (x ∷ es) zero e is = let same : e ≡ x = cc in ap (λ (y : ℕ × ValueId). y.1.0) same
-number-at (x ∷ es) (suc at) e is = number-at es at e is
-
--- a number of the first of two lists, and one of the second
-pub number-front : (ms ns : List ℕ) (at n : ℕ) → Some n ≡ slice_get ms at → n ≡ slice_index (ms ++ ns) at
-number-front [] ns at n is = let no : ⊥ = cc in absurd no
-number-front (m ∷ ms) ns zero n is = cc
-number-front (m ∷ ms) ns (suc at) n is = number-front ms ns at n is
-
-pub number-behind : (ms ns : List ℕ) (at : ℕ) → length ms ≤ at → slice_index ns (at - length ms) ≡ slice_index (ms ++ ns) at
-number-behind ms ns at above = sym (get_or-append_right ms ns (length ms) at 0 refl above)
-
--- a place that has no number is past the list
-pub past-numbers : (ms : List ℕ) (at : ℕ) → None ≡ slice_get ms at → length ms ≤ at
-past-numbers [] at is = omega arith
-past-numbers (m ∷ ms) zero is = let no : ⊥ = cc in absurd no
-past-numbers (m ∷ ms) (suc at) is = let rest : length ms ≤ at = past-numbers ms at is in omega (arith, rest)
-
 -- a hole that is set names one number more
 has-set : (l : List (Option ℕ)) (i v n : ℕ) → i < length l → get_or l i None ≡ None → has_number n (filter_map (λ e. e) (set l i (Some v))) ≡ ((v == n) || has_number n (filter_map (λ e. e) l))
 has-set [] i v n less hole = absurd (omega arith)

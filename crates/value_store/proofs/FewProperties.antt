@@ -1,5 +1,5 @@
 -- Laws on properties that are looked for along a list of entries.
-use Rattle.std.proofs.Common.{◌≡◌, ℕ, zero, suc, ◌+◌, ◌<◌, nat_eq, nat_lt, Bool, true, false, cond, not, List, [], ◌∷◌, ◌++◌, length, map, get_or, slice_get, set, take, Option, Some, None, OnOk, OnErr, is_some, option_map, refl, ap, sym, subst, ◌∙◌, arith}
+use Rattle.std.proofs.Common.{◌≡◌, ℕ, zero, suc, ◌+◌, ◌<◌, nat_eq, nat_lt, Bool, true, false, cond, not, List, [], ◌∷◌, ◌++◌, length, get_or, slice_get, set, take, Option, Some, None, OnOk, OnErr, is_some, option_map, refl, ap, sym, subst, ◌∙◌, arith}
 use Rattle.std.specs.declared.result.Result.{Result}
 use Rattle.std.specs.declared.result.Result.TheVariants.{Ok, Err}
 use Rattle.std.specs.List.{IsDistinct, AllByRecursion, prefix_len, position, remove}
@@ -10,7 +10,7 @@ use Rattle.indexmap.proofs.MapLemmas.{Found, Found-position, some_index, absent_
 use Rattle.napi_types.specs.declared.ids.ValueId.{ValueId}
 use Rattle.napi_types.specs.parts.Properties.{Property, HasDistinctNames, property_at}
 use Rattle.napi_types.proofs.plain.Found.{turned}
-use Rattle.value_store.specs.PropertyMaps.{listed_properties, numbers_in}
+use Rattle.value_store.specs.PropertyMaps.{listed_properties}
 use Rattle.value_store.proofs.PropertyMaps.{listed_properties-insert_entry, listed_properties-remove_entry, property_at-listed_properties, distinct_names, names-listed}
 use Rattle.value_store.proofs.PropertyNames.{distinct-property_set, distinct-property_removed}
 
@@ -122,8 +122,3 @@ absent-unplaced name es h =
     by : (o : Option ValueId) → is_some o ≡ false → o ≡ None
     by None h = refl
     by (Some v) h = let no : ⊥ = cc in absurd no
-
--- CHILDREN
-pub numbers_in-listed : (es : List (ℕ × ValueId)) → numbers_in es ≡ map (λ p. p.value) (listed_properties es)
-numbers_in-listed [] = refl
-numbers_in-listed (e ∷ es) = ap (λ l. e.1.0 ∷ l) (numbers_in-listed es)

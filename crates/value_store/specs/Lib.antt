@@ -1,5 +1,5 @@
-pub mod ListedChildren
 pub mod Listings
 pub mod PropertyMaps
 pub mod StoreChanges
 pub mod ValuePlaces
+pub mod Walks

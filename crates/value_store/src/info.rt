@@ -1,13 +1,14 @@
 //! A value, as a store lends it.
-ghost use Rattle.std.specs.Prelude.{◌≡◌, ◌<◌, length, option_map, slice_get, Some};
+ghost use Rattle.std.specs.Prelude.{◌≡◌, length, option_map};
 ghost use Rattle.napi_types.specs.plain.Lists.{HaveSameNumbers};
 ghost use Rattle.napi_types.specs.parts.Properties.{property_at, element_at};
 ghost use Rattle.napi_types.specs.parts.Values.{children};
 ghost use Rattle.value_store.specs.ValuePlaces.{value_of_record};
 
-use crate::Children;
 use crate::place::ValuePlace;
 use crate::record::ValueRecord;
+use crate::walk::EntriesLeft;
+use crate::{Children, PropertyWalk};
 use napi_types::{Body, TextNo, ValueId};
 use std::marker::Model;
 use std::mem::size_of;
@@ -79,15 +80,14 @@ impl<'a> ValueInfo<'a> {
         }
     }
 
-    /// The name of a property, at a place in the order in which the names were first set. Constant time.
-    pub fn name_at(&self, at: usize) -> TextNo
-        requires { at < length self.now.properties }
-        ensures { option_map (λ p. p.name) (slice_get self.now.properties at) ≡ Some result.0 }
+    /// The properties, one after another.
+    pub fn properties(&self) -> PropertyWalk<'a>
+        ensures { result ≡ self.now.properties }
     {
         match &self.record.value {
-            ValuePlace::Plain(_) => unreachable!(),
-            ValuePlace::One(name, _, _) => *name,
-            ValuePlace::Full(_, parts) => parts.name_at(at),
+            ValuePlace::Plain(_) => PropertyWalk::over(EntriesLeft::Nothing),
+            ValuePlace::One(name, to, _) => PropertyWalk::over(EntriesLeft::One(*name, *to)),
+            ValuePlace::Full(_, parts) => parts.properties(),
         }
     }
 
@@ -111,14 +111,14 @@ impl<'a> ValueInfo<'a> {
         }
     }
 
-    /// The values that the properties and elements name, each under a place.
+    /// The values that the properties and elements name, one after another.
     pub(crate) fn children(&self) -> Children<'a>
         ensures same { HaveSameNumbers result (children self.now) }
         ensures many { length result ≡ length (children self.now) }
     {
         match &self.record.value {
             ValuePlace::Plain(_) => Children::none(),
-            ValuePlace::One(_, to, _) => Children::one(*to),
+            ValuePlace::One(name, to, _) => Children::one(*name, *to),
             ValuePlace::Full(_, parts) => parts.children(),
         }
     }

@@ -13,8 +13,10 @@ mod places;
 mod properties;
 mod record;
 mod store;
+mod walk;
 
 pub use children::Children;
 pub use info::ValueInfo;
 pub use napi_types::Body;
 pub use store::Store;
+pub use walk::PropertyWalk;

@@ -4,9 +4,9 @@ ghost use Rattle.napi_types.specs.plain.Lists.{HaveSameNumbers};
 ghost use Rattle.napi_types.specs.parts.Properties.{most_index, property_at, property_set, property_removed, element_at, element_set};
 ghost use Rattle.value_store.specs.PropertyMaps.{one_property, numbers_in};
 
-use crate::Children;
 use crate::elements::Elements;
 use crate::properties::Properties;
+use crate::{Children, PropertyWalk};
 use indexmap::map::Slice;
 use napi_types::{NoMemory, TextNo, ValueId};
 use std::alloc::Global;
@@ -89,11 +89,11 @@ impl Parts {
         self.properties.len()
     }
 
-    pub(crate) fn name_at(&self, at: usize) -> TextNo
-        requires { at < length self.now.properties }
-        ensures { option_map (λ p. p.name) (slice_get self.now.properties at) ≡ Some result.0 }
+    /// The properties in the order in which their names were first set.
+    pub(crate) fn properties(&self) -> PropertyWalk<'_>
+        ensures { result ≡ self.now.properties }
     {
-        self.properties.name_at(at)
+        self.properties.walk()
     }
 
     pub(crate) fn set_element(
@@ -141,14 +141,13 @@ impl Parts {
         ensures same { HaveSameNumbers result (map (λ p. p.value) self.now.properties ++ filter_map (λ e. e) self.now.elements) }
         ensures many { length result ≡ length (map (λ p. p.value) self.now.properties ++ filter_map (λ e. e) self.now.elements) }
     {
-        Children::of(self.properties.values(), self.elements_set())
+        Children::of(self.properties.walk(), self.elements_set())
     }
 
     /// The elements that were set, in the order in which they first were.
     fn elements_set(&self) -> Slice<'_, u32, ValueId>
         ensures same { HaveSameNumbers (numbers_in result) (filter_map (λ e. e) self.now.elements) }
         ensures many { length result ≡ length (filter_map (λ e. e) self.now.elements) }
-        ensures fits { length result < 2 ^ 63 }
     {
         match &self.elements {
             Some(elements) => elements.values(),

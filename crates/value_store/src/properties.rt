@@ -4,9 +4,9 @@ ghost use Rattle.std.specs.List.{IsDistinct};
 ghost use Rattle.std.specs.Map.{keys_of, lookup, remove_entry};
 ghost use Rattle.indexmap.specs.IndexMap.{insert_entry};
 ghost use Rattle.napi_types.specs.parts.Properties.{property_at, property_set, property_removed};
-ghost use Rattle.value_store.specs.ListedChildren.{values_listed};
 
-use crate::children::PropertyValues;
+use crate::PropertyWalk;
+use crate::walk::EntriesLeft;
 use indexmap::IndexMap;
 use napi_types::{NoMemory, TextNo, ValueId};
 use std::alloc::Global;
@@ -102,27 +102,13 @@ impl Properties {
         }
     }
 
-    pub(crate) fn name_at(&self, at: usize) -> TextNo
-        requires { at < length self.now }
-        ensures { option_map (λ p. p.name) (slice_get self.now at) ≡ Some result.0 }
+    /// The properties, one after another.
+    pub(crate) fn walk(&self) -> PropertyWalk<'_>
+        ensures { result ≡ self.now }
     {
         match &self.listing {
-            Listing::Few(entries) => TextNo(entries[at].0),
-            Listing::Many(map) => match map.get_index(at) {
-                Some((name, _)) => TextNo(*name),
-                None => unreachable!(),
-            },
-        }
-    }
-
-    /// The values of the properties.
-    pub(crate) fn values(&self) -> PropertyValues<'_>
-        ensures values { values_listed result ≡ map (λ p. p.value) self.now }
-        ensures fits { length (values_listed result) < 2 ^ 63 }
-    {
-        match &self.listing {
-            Listing::Few(entries) => PropertyValues::Few(entries),
-            Listing::Many(map) => PropertyValues::Many(map.as_slice()),
+            Listing::Few(entries) => PropertyWalk::over(EntriesLeft::Few(entries)),
+            Listing::Many(map) => PropertyWalk::over(EntriesLeft::Many(map.as_slice())),
         }
     }
 }

@@ -207,7 +207,7 @@ impl Store {
         record.value.set_element(self.alloc, at, to)
     }
 
-    /// The children of a value, each under a place from 0: first the values of its properties, then its elements. A hole is no child.
+    /// The children of a value, one after another: first the values of its properties, then its elements. A hole is no child.
     /// Constant time.
     pub fn children(&self, id: ValueId) -> Children<'_>
         ensures same { HaveSameNumbers result (children_in self.now id.0) }

@@ -159,14 +159,12 @@ fn parent(rt: &impl Abort, store: &mut Store) -> ValueId
     object
 }
 
-/// The children at the first five places.
+/// The first five children.
 fn children(store: &Store, id: ValueId) -> [Option<ValueId>; 5] {
-    let children = store.children(id);
+    let mut children = store.children(id);
     let mut found = [None; 5];
     for at in 0..5 {
-        if at < children.len() {
-            found[at] = Some(children.at(at));
-        }
+        found[at] = children.next();
     }
     found
 }

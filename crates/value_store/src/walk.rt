@@ -1,0 +1,69 @@
+//! A walk over the properties of one value.
+ghost use Rattle.std.specs.Prelude.{◌≡◌, [], ◌∷◌};
+ghost use Rattle.std.specs.Option.{MatchOption, IfNone};
+ghost use Rattle.value_store.specs.PropertyMaps.{listed_properties};
+ghost use Rattle.value_store.specs.Walks.{entries_left};
+
+use indexmap::map::Slice;
+use napi_types::{TextNo, ValueId};
+use std::marker::Model;
+
+/// What a walk has left, each property as the number of its name's text and its value.
+#[derive(Drop)]
+pub(crate) enum EntriesLeft<'a> {
+    Nothing,
+    One(TextNo, ValueId),
+    Few(&'a [(u32, ValueId)]),
+    Many(Slice<'a, u32, ValueId>),
+}
+
+/// A walk over the properties of a value, in the order in which their names were first set. Contracts see those that it has left.
+#[derive(Drop)]
+pub struct PropertyWalk<'a> {
+    left: EntriesLeft<'a>,
+}
+
+impl<'a> Model for PropertyWalk<'a> {
+    ghost use Rattle.std.specs.Prelude.{List};
+    ghost use Rattle.napi_types.specs.parts.Properties.{Property};
+    ghost use Rattle.value_store.specs.PropertyMaps.{listed_properties};
+    ghost use Rattle.value_store.specs.Walks.{entries_left};
+
+    ghost Value = { List Property };
+
+    ghost view = { λ walk. listed_properties (entries_left walk.left) };
+}
+
+impl<'a> PropertyWalk<'a> {
+    /// A walk over these properties.
+    pub(crate) fn over(left: EntriesLeft<'a>) -> PropertyWalk<'a>
+        ensures { result ≡ listed_properties (entries_left left.entry) }
+    {
+        PropertyWalk { left }
+    }
+
+    /// The name and the value of the next property, `None` exactly where none is left. Constant time, over a whole walk.
+    pub fn next(&mut self) -> Option<(TextNo, ValueId)>
+        ensures next { MatchOption result (self.old ≡ []) (λ p. self.old ≡ record { name = p.0.0; value = p.1.0 } ∷ self.new) }
+        ensures none { IfNone result (self.new ≡ self.old) }
+    {
+        match &mut self.left {
+            EntriesLeft::Nothing => None,
+            EntriesLeft::One(name, to) => {
+                let property = (*name, *to);
+                self.left = EntriesLeft::Nothing;
+                Some(property)
+            }
+            EntriesLeft::Few(entries) => {
+                let (first, others) = entries.split_first()?;
+                *entries = others;
+                Some((TextNo(first.0), first.1))
+            }
+            EntriesLeft::Many(entries) => {
+                let ((name, to), others) = entries.split_first()?;
+                *entries = others;
+                Some((TextNo(*name), *to))
+            }
+        }
+    }
+}
