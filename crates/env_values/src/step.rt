@@ -136,8 +136,8 @@ fn outcome(
 /// Which frames a call entered stays as it was. After `NoMemory` the scopes and the value graph are as they were too: all memory
 /// is taken after the last test and before the first change. So no call that is refused stops for want of memory.
 ///
-/// Near constant time and logarithmic in the open handles, beside `delete_property` and `get_property_names`, whose time grows
-/// with the number of the object's properties.
+/// Near constant time and logarithmic in the open handles, and in an object's properties where one of many was deleted; beside
+/// `get_property_names`, and the first `delete_property` in the midst of many, whose time grows with the number of the properties.
 pub fn value_step(
     alloc: Global,
     store: &mut Store,

@@ -56,7 +56,7 @@ module _ (name : ℕ) (es : List (ℕ × ValueId)) (place : ℕ) (is : Some plac
   pub place-some : true ≡ is_some (lookup (nat_eq name) es)
   place-some = ap is_some (place-lookup (0, record { 0 = 0 }))
 
-without-absent : (name : ℕ) (es : List (ℕ × ValueId)) → None ≡ lookup (nat_eq name) es → es ≡ remove_entry (nat_eq name) es
+pub without-absent : (name : ℕ) (es : List (ℕ × ValueId)) → None ≡ lookup (nat_eq name) es → es ≡ remove_entry (nat_eq name) es
 without-absent name [] h = refl
 without-absent name (e ∷ es) h = by (without-absent name es) (nat_eq name e.0) h
   where
@@ -110,6 +110,17 @@ take-insert_entry (e ∷ es) (suc at) d h less =
     later [] at h less = absurd (omega arith)
     later (f ∷ fs) zero h less = h.0
     later (f ∷ fs) (suc at) h less = later fs at h.1 (omega arith)
+
+entry-at : (es : List (ℕ × ValueId)) (at : ℕ) (e : ℕ × ValueId) → slice_get es at ≡ Some e → (get_or es at e ≡ e) × (at < length es)
+entry-at [] at e is = let no : ⊥ = cc in absurd no
+entry-at (f ∷ es) zero e is = (cc, omega arith)
+entry-at (f ∷ es) (suc at) e is = let rest = entry-at es at e is in (rest.0, omega (arith, rest.1))
+
+pub next-insert_entry : (es : List (ℕ × ValueId)) (at : ℕ) (e : ℕ × ValueId) → IsDistinct nat_eq (keys_of es) → slice_get es at ≡ Some e → insert_entry nat_eq (take at es) e.0 e.1 ≡ take (at + 1) es
+next-insert_entry es at e h is =
+    let there = entry-at es at e is in
+    let next : suc at ≡ at + 1 = omega arith in
+    ap (λ x. insert_entry nat_eq (take at es) x.0 x.1) (sym there.0) ∙ take-insert_entry es at e h there.1 ∙ ap (λ n. take n es) next
 
 -- A NAME THAT IS ABSENT
 pub absent-listed : (name : ℕ) (es : List (ℕ × ValueId)) → lookup (nat_eq name) es ≡ None → property_at name (listed_properties es) ≡ None

@@ -9,6 +9,7 @@ pub mod Listing
 pub mod LiveValues
 pub mod Lookup
 pub mod NamedPlaces
+pub mod OrderedMaps
 pub mod Outcomes
 pub mod PropertyMaps
 pub mod PropertyNames

@@ -1,4 +1,5 @@
 pub mod Listings
+pub mod OrderedMaps
 pub mod PropertyMaps
 pub mod StoreChanges
 pub mod ValuePlaces

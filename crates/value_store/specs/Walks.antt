@@ -10,3 +10,4 @@ entries_left left.Nothing = []
 entries_left (left.One name to) = (name.0, to) ∷ []
 entries_left (left.Few entries) = entries.now
 entries_left (left.Many entries) = entries
+entries_left (left.Ordered entries) = entries

@@ -58,7 +58,8 @@ impl<'a> ValueInfo<'a> {
         self.record.number
     }
 
-    /// The value of a property, `None` exactly where the name is absent. Near constant time.
+    /// The value of a property, `None` exactly where the name is absent. Near constant time, or logarithmic in how many properties
+    /// there are, since one went out of the midst of many.
     pub fn get_prop(&self, name: TextNo) -> Option<ValueId>
         ensures { option_map (λ v. v.0) result ≡ property_at name.0 self.now.properties }
     {

@@ -7,6 +7,7 @@
 mod children;
 mod elements;
 mod info;
+mod ordered;
 mod parts;
 mod place;
 mod places;

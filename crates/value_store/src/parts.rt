@@ -76,11 +76,11 @@ impl Parts {
         self.properties.get(name)
     }
 
-    pub(crate) fn remove_prop(&mut self, name: TextNo) -> bool
+    pub(crate) fn remove_prop(&mut self, alloc: Global, name: TextNo) -> bool
         ensures removed { self.new ≡ record self.old { properties = property_removed name.0 self.old.properties } }
         ensures was { result ≡ is_some (property_at name.0 self.old.properties) }
     {
-        self.properties.remove(name)
+        self.properties.remove(alloc, name)
     }
 
     pub(crate) fn name_count(&self) -> usize

@@ -104,7 +104,7 @@ impl ValuePlace {
     }
 
     /// Removes a property, and tells whether the name was there. The others keep their order.
-    pub(crate) fn remove_prop(&mut self, name: TextNo) -> bool
+    pub(crate) fn remove_prop(&mut self, alloc: Global, name: TextNo) -> bool
         ensures removed { ChangesPlace self.old self.new (without_property name.0) }
         ensures was { result ≡ is_some (property_at name.0 (properties_here self.old)) }
     {
@@ -117,7 +117,7 @@ impl ValuePlace {
                 *self = ValuePlace::Plain(*body);
                 true
             }
-            ValuePlace::Full(_, parts) => parts.remove_prop(name),
+            ValuePlace::Full(_, parts) => parts.remove_prop(alloc, name),
         }
     }
 

@@ -6,8 +6,10 @@ ghost use Rattle.indexmap.specs.IndexMap.{insert_entry};
 ghost use Rattle.napi_types.specs.parts.Properties.{property_at, property_set, property_removed};
 
 use crate::PropertyWalk;
+use crate::ordered::Ordered;
 use crate::walk::EntriesLeft;
 use indexmap::IndexMap;
+use indexmap::map::Slice;
 use napi_types::{NoMemory, TextNo, ValueId};
 use std::alloc::Global;
 use std::marker::Model;
@@ -26,6 +28,8 @@ pub(crate) struct Properties {
 pub(crate) enum Listing {
     Few(Vec<(u32, ValueId)>),
     Many(Box<IndexMap<u32, ValueId>>),
+    // Many too, since one of them was removed that was not the last.
+    Ordered(Box<Ordered>),
 }
 
 impl Model for Properties {
@@ -71,6 +75,7 @@ impl Properties {
                 map.insert(name.0, to)?;
                 Ok(())
             }
+            Listing::Ordered(ordered) => ordered.set(name.0, to),
         }
     }
 
@@ -80,16 +85,36 @@ impl Properties {
         match &self.listing {
             Listing::Few(entries) => get_few(entries, name.0),
             Listing::Many(map) => map.get(&name.0).copied(),
+            Listing::Ordered(ordered) => ordered.get(name.0),
         }
     }
 
-    pub(crate) fn remove(&mut self, name: TextNo) -> bool
+    pub(crate) fn remove(&mut self, alloc: Global, name: TextNo) -> bool
         ensures removed { self.new ≡ property_removed name.0 self.old }
         ensures was { result ≡ is_some (property_at name.0 self.old) }
     {
+        self.prepare_removal(alloc, name.0);
         match &mut self.listing {
             Listing::Few(entries) => remove_few(entries, name.0),
             Listing::Many(map) => map.shift_remove(&name.0).is_some(),
+            Listing::Ordered(ordered) => ordered.remove(name.0),
+        }
+    }
+
+    /// Where a name is one of many and not the last, puts all of them where a removal moves no other. Without memory for that they
+    /// stay as they are.
+    fn prepare_removal(&mut self, alloc: Global, name: u32)
+        ensures { self.new ≡ self.old }
+    {
+        let Listing::Many(map) = &self.listing else {
+            return;
+        };
+        match map.get_index_of(&name) {
+            Some(place) if map.len() - place > 1 => {}
+            _ => return,
+        }
+        if let Ok(ordered) = in_order(alloc, &map.as_slice()) {
+            self.listing = Listing::Ordered(ordered);
         }
     }
 
@@ -99,6 +124,7 @@ impl Properties {
         match &self.listing {
             Listing::Few(entries) => entries.len(),
             Listing::Many(map) => map.len(),
+            Listing::Ordered(ordered) => ordered.len(),
         }
     }
 
@@ -109,6 +135,9 @@ impl Properties {
         match &self.listing {
             Listing::Few(entries) => PropertyWalk::over(EntriesLeft::Few(entries)),
             Listing::Many(map) => PropertyWalk::over(EntriesLeft::Many(map.as_slice())),
+            Listing::Ordered(ordered) => {
+                PropertyWalk::over(EntriesLeft::Ordered(ordered.entries()))
+            }
         }
     }
 }
@@ -176,4 +205,19 @@ fn set_many(
     }
     map.insert(name, to)?;
     Ok(map)
+}
+
+/// The same entries, where a removal moves no other.
+fn in_order(alloc: Global, entries: &Slice<'_, u32, ValueId>) -> Result<Box<Ordered>, NoMemory>
+    requires { IsDistinct nat_eq (keys_of entries.now) }
+    ensures { IfOk result (λ ordered. ordered.value ≡ entries.now) }
+{
+    let mut ordered = Ordered::new(alloc);
+    for at in 0..entries.len() {
+        match entries.get_index(at) {
+            Some((name, to)) => ordered.set(*name, *to)?,
+            None => unreachable!(),
+        }
+    }
+    Ok(Box::new(alloc, ordered)?)
 }

@@ -164,7 +164,8 @@ impl Store {
 
     /// Sets a property: a name that is there keeps its place, and a new one goes last.
     ///
-    /// Near constant time: now and then the value's map of properties grows.
+    /// Near constant time, or logarithmic in how many properties there are, since one went out of the midst of many. Now and then the
+    /// value's map of properties grows.
     pub fn set_prop(&mut self, id: ValueId, name: TextNo, to: ValueId) -> Result<(), NoMemory>
         requires object { IsObject self.old id.0 }
         requires value { IsLive self.old to.0 }
@@ -178,7 +179,8 @@ impl Store {
 
     /// Removes a property, and tells whether its name was there. The others keep their order.
     ///
-    /// The time grows with the number of the value's properties.
+    /// In time logarithmic in how many properties there are. For the first that goes out of the midst of many it grows with their
+    /// number, and so does the memory that is taken then; where there is none, the time grows with their number each time.
     pub fn remove_prop(&mut self, id: ValueId, name: TextNo) -> bool
         ensures removed { ChangesOnly self.old self.new id.0 (without_property name.0) }
         ensures graph { graph_of self.new ≡ value_changed (number_in self.old id.0) (without_property name.0) (graph_of self.old) }
@@ -188,7 +190,7 @@ impl Store {
             return false;
         }
         let record = self.values.value_mut(id.0);
-        record.value.remove_prop(name)
+        record.value.remove_prop(self.alloc, name)
     }
 
     /// Sets an element. What lies between the end and a later index is holes.

@@ -6,6 +6,7 @@ ghost use Rattle.value_store.specs.Walks.{entries_left};
 
 use indexmap::map::Slice;
 use napi_types::{TextNo, ValueId};
+use std::collections::btree_map::Values;
 use std::marker::Model;
 
 /// What a walk has left, each property as the number of its name's text and its value.
@@ -15,6 +16,7 @@ pub(crate) enum EntriesLeft<'a> {
     One(TextNo, ValueId),
     Few(&'a [(u32, ValueId)]),
     Many(Slice<'a, u32, ValueId>),
+    Ordered(Values<'a, u64, (u32, ValueId)>),
 }
 
 /// A walk over the properties of a value, in the order in which their names were first set. Contracts see those that it has left.
@@ -63,6 +65,10 @@ impl<'a> PropertyWalk<'a> {
                 let ((name, to), others) = entries.split_first()?;
                 *entries = others;
                 Some((TextNo(*name), *to))
+            }
+            EntriesLeft::Ordered(entries) => {
+                let entry = entries.next()?;
+                Some((TextNo(entry.0), entry.1))
             }
         }
     }

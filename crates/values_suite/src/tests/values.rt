@@ -184,3 +184,57 @@ fn children_stand_in_order(rt: HostRuntime) {
     let object = parent(&rt, &mut store);
     assert_eq!(rt; children(&store, object), CHILDREN);
 }
+
+/// An object with twelve properties, whose names are 10 to 21, in this order.
+fn wide(rt: &impl Abort, store: &mut Store) -> ValueId
+    requires { IsNew store.old }
+{
+    let object = ample(rt, store.make(PLAIN));
+    for name in 10..22 {
+        set(rt, store, object, name, store.starting(0));
+    }
+    object
+}
+
+/// The names of the first twelve properties, in their order, and 0 where there is none.
+fn names(store: &Store, id: ValueId) -> [u32; 12] {
+    let mut found = [0; 12];
+    if let Some(value) = store.get(id) {
+        let mut properties = value.properties();
+        for at in 0..12 {
+            if let Some((name, _)) = properties.next() {
+                found[at] = name.0;
+            }
+        }
+    }
+    found
+}
+
+/// The names after each of five changes: the first one is removed, one in the middle, the last one; the first one is set again, and
+/// one that is there.
+const NAMES: [[u32; 12]; 5] = [
+    [11, 12, 13, 14, 15, 16, 17, 18, 19, 20, 21, 0],
+    [11, 12, 13, 14, 16, 17, 18, 19, 20, 21, 0, 0],
+    [11, 12, 13, 14, 16, 17, 18, 19, 20, 0, 0, 0],
+    [11, 12, 13, 14, 16, 17, 18, 19, 20, 10, 0, 0],
+    [11, 12, 13, 14, 16, 17, 18, 19, 20, 10, 0, 0],
+];
+
+#[test]
+fn many_names_keep_their_order(rt: HostRuntime) {
+    let mut store = ample(&rt, Store::new(rt.alloc()));
+    let object = wide(&rt, &mut store);
+    let null = store.starting(1);
+    let mut found = [[0; 12]; 5];
+    store.remove_prop(object, TextNo(10));
+    found[0] = names(&store, object);
+    store.remove_prop(object, TextNo(15));
+    found[1] = names(&store, object);
+    store.remove_prop(object, TextNo(21));
+    found[2] = names(&store, object);
+    set(&rt, &mut store, object, 10, null);
+    found[3] = names(&store, object);
+    set(&rt, &mut store, object, 16, null);
+    found[4] = names(&store, object);
+    assert_eq!(rt; found, NAMES);
+}

@@ -10,3 +10,8 @@ pub returns-in-Many : goal.returns-in-Many
 returns-in-Many c =
     rw (← c.self.view_is, c.in-Many.is)
     (ap (option_map (λ (v : ValueId). v.0)) (c.copied.ensures ∙ (rw c.deref-in-Many.ensures at c.get.ensures.value)) ∙ sym (property_at-listed_properties c.args.name.0 c.in-Many.map.value.entries))
+
+pub returns-in-Ordered : goal.returns-in-Ordered
+returns-in-Ordered c =
+    rw (← c.self.view_is, c.in-Ordered.is)
+    (ap (option_map (λ (v : ValueId). v.0)) (rw c.deref-in-Ordered.ensures at c.get-in-Ordered.ensures) ∙ sym (property_at-listed_properties c.args.name.0 c.in-Ordered.ordered.value))

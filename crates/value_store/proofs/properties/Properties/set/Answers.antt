@@ -37,3 +37,17 @@ pub returns-in_err-insert-in-Many-clause-absent : goal.returns-in_err-insert-in-
 returns-in_err-insert-in-Many-clause-absent c =
     let gone = rw c.deref_mut.ensures.value at c.in_err-insert-in-Many.ensures.absent in
     err-with c.from_residual-in_err-insert-in-Many.result (rw (← c.self.view_is, c.in-Many.is) (absent-listed c.args.name.0 c.in-Many.map.value.entries gone))
+
+pub invariant_of-self-in-Ordered : goal.invariant_of-self-in-Ordered
+invariant_of-self-in-Ordered c =
+    distinct-set c.set.result c.args.name.0 c.args.to c.in-Ordered.ordered.value c.set.new.self (rw c.deref_mut-in-Ordered.ensures.value at c.set.ensures.set)
+    (rw c.deref_mut-in-Ordered.ensures.value at c.set.ensures.err) (rw c.in-Ordered.is at c.self.invariant)
+
+pub returns-in-Ordered-clause-set : goal.returns-in-Ordered-clause-set
+returns-in-Ordered-clause-set c =
+    rw (← c.self.view_is, c.in-Ordered.is)
+    (ok-then c.set.result (λ set. ap listed_properties set ∙ listed_properties-insert_entry c.args.name.0 c.args.to c.in-Ordered.ordered.value) (rw c.deref_mut-in-Ordered.ensures.value at c.set.ensures.set))
+
+pub returns-in-Ordered-clause-absent : goal.returns-in-Ordered-clause-absent
+returns-in-Ordered-clause-absent c =
+    rw (← c.self.view_is, c.in-Ordered.is) (err-then c.set.result (absent-listed c.args.name.0 c.in-Ordered.ordered.value) (rw c.deref_mut-in-Ordered.ensures.value at c.set.ensures.absent))
