@@ -1,11 +1,14 @@
 -- Laws on properties that stand under rising numbers.
-use Rattle.std.proofs.Common.{◌≡◌, ◌∙◌, ◌⊎◌, inl, inr, ℕ, ◌<◌, nat_eq, Bool, true, false, cond, List, [], ◌∷◌, ◌++◌, Some, None, refl, ap, sym, subst, arith}
+use Rattle.std.proofs.Common.{◌≡◌, ◌∙◌, ◌⊎◌, inl, inr, ℕ, ◌<◌, nat_eq, Bool, true, false, cond, ◌&&◌, List, [], ◌∷◌, ◌++◌, Some, None, refl, ap, sym, subst, arith}
 use Rattle.std.specs.List.{All, IsDistinct, AllByRecursion}
 use Rattle.std.specs.List.Sorted.{IsStrictlySortedBy}
 use Rattle.std.specs.Map.{keys_of, values_of, lookup, remove_entry}
 use Rattle.std.specs.BTreeMap as tree
 use Rattle.std.specs.BTreeMap.{BTreeMap, IsOrdered, is_at, get}
-use Rattle.std.specs.Ordering.{nat_cmp, is_eq}
+use Rattle.std.specs.Ordering.{nat_cmp, is_eq, is_lt}
+use Rattle.std.specs.BTreeMap.Range.{is_from_start, entries_between}
+use Rattle.std.specs.declared.ops.Bound.{Bound}
+use Rattle.std.specs.declared.ops.Bound.TheVariants.{Included, Excluded, Unbounded}
 use Rattle.std.specs.declared.cmp.Ordering.TheVariants.{Less, Equal, Greater}
 use Rattle.std.proofs.lemmas.Cmp.{nat_eq_equiv}
 use Rattle.std.proofs.lemmas.List.{map-append}
@@ -272,3 +275,57 @@ module _ (by_number new_by_number : BTreeMap ℕ (ℕ × ValueId)) (by_name new_
 
       restored : (q : ℕ) → get nat_cmp new_by_name q ≡ get nat_cmp by_name q
       restored q = taken q ∙ ap (cond (is_at (nat_cmp name) q) None) (put q) ∙ by q (is_at (nat_cmp name) q) refl
+
+-- A WALK
+after-start : (from : Bound ℕ) (a b : ℕ) → is_from_start nat_cmp from a ≡ true → nat_cmp a b ≡ Less → is_from_start nat_cmp from b ≡ true
+after-start Unbounded a b at less = refl
+after-start (Included n) a b at less = grind arith
+after-start (Excluded n) a b at less = grind arith
+
+-- all from a number on, where the least of them is above one that is there
+all-from : (from : Bound ℕ) (a : ℕ) (es : List NumberedProperty) → is_from_start nat_cmp from a ≡ true → AllByRecursion (λ k. nat_cmp a k ≡ Less) (keys_of es) → entries_between nat_cmp from Unbounded es ≡ es
+all-from from a [] at below = refl
+all-from from a (e ∷ es) at below = rw (after-start from a e.0 at below.0) (ap (λ l. e ∷ l) (all-from from a es at below.1))
+
+all-after : (a : ℕ) (es : List NumberedProperty) → AllByRecursion (λ k. nat_cmp a k ≡ Less) (keys_of es) → entries_between nat_cmp (Excluded a) Unbounded es ≡ es
+all-after a [] below = refl
+all-after a (e ∷ es) below = rw below.0 (ap (λ l. e ∷ l) (all-after a es below.1))
+
+first-above : (a : ℕ) (from : Bound ℕ) (es rest : List NumberedProperty) (e : NumberedProperty) → AllByRecursion (λ k. nat_cmp a k ≡ Less) (keys_of es)
+    → entries_between nat_cmp from Unbounded es ≡ e ∷ rest → nat_cmp a e.0 ≡ Less
+first-above a from [] rest e below is = let no : ⊥ = cc in absurd no
+first-above a from (x ∷ es) rest e below is = by (is_from_start nat_cmp from x.0) is (first-above a from es rest e below.1)
+  where
+    by : (b : Bool) → cond (b && true) (x ∷ entries_between nat_cmp from Unbounded es) (entries_between nat_cmp from Unbounded es) ≡ e ∷ rest
+        → (entries_between nat_cmp from Unbounded es ≡ e ∷ rest → nat_cmp a e.0 ≡ Less) → nat_cmp a e.0 ≡ Less
+    by true here later = let same : x ≡ e = cc in subst (λ (p : NumberedProperty). nat_cmp a p.0 ≡ Less) same below.0
+    by false here later = later here
+
+-- after the first from a number on come the others
+pub walked : (from : Bound ℕ) (es rest : List NumberedProperty) (e : NumberedProperty) → IsStrictlySortedBy nat_cmp (keys_of es)
+    → entries_between nat_cmp from Unbounded es ≡ e ∷ rest → entries_between nat_cmp (Excluded e.0) Unbounded es ≡ rest
+walked from [] rest e rising is = let no : ⊥ = cc in absurd no
+walked from (x ∷ es) rest e rising is = by (is_from_start nat_cmp from x.0) refl is (walked from es rest e (sorted_tail nat_cmp x.0 (keys_of es) rising))
+  where
+    below : AllByRecursion (λ k. nat_cmp x.0 k ≡ Less) (keys_of es)
+    below = sorted_head nat_cmp x.0 (keys_of es) rising
+
+    itself : (a : ℕ) → is_lt (nat_cmp a a) ≡ false
+    itself a = grind arith
+
+    before : (a b : ℕ) → nat_cmp a b ≡ Less → is_lt (nat_cmp b a) ≡ false
+    before a b h = grind arith
+
+    by : (b : Bool) → is_from_start nat_cmp from x.0 ≡ b → cond (b && true) (x ∷ entries_between nat_cmp from Unbounded es) (entries_between nat_cmp from Unbounded es) ≡ e ∷ rest
+        → (entries_between nat_cmp from Unbounded es ≡ e ∷ rest → entries_between nat_cmp (Excluded e.0) Unbounded es ≡ rest)
+        → cond (is_lt (nat_cmp e.0 x.0) && true) (x ∷ entries_between nat_cmp (Excluded e.0) Unbounded es) (entries_between nat_cmp (Excluded e.0) Unbounded es) ≡ rest
+    by true at here later =
+        let same : x ≡ e = cc in
+        let others : entries_between nat_cmp from Unbounded es ≡ rest = cc in
+        subst (λ (p : NumberedProperty). cond (is_lt (nat_cmp p.0 x.0) && true) (x ∷ entries_between nat_cmp (Excluded p.0) Unbounded es) (entries_between nat_cmp (Excluded p.0) Unbounded es) ≡ rest) same
+        (rw (itself x.0) (all-after x.0 es below ∙ sym (all-from from x.0 es at below) ∙ others))
+    by false at here later = rw (before x.0 e.0 (first-above x.0 from es rest e below here)) (later here)
+
+pub all-there : (es : List NumberedProperty) → entries_between nat_cmp Unbounded Unbounded es ≡ es
+all-there [] = refl
+all-there (e ∷ es) = ap (λ l. e ∷ l) (all-there es)

@@ -119,7 +119,7 @@ impl<'a> ValueInfo<'a> {
     {
         match &self.record.value {
             ValuePlace::Plain(_) => Children::none(),
-            ValuePlace::One(name, to, _) => Children::one(*name, *to),
+            ValuePlace::One(_, to, _) => Children::one(*to),
             ValuePlace::Full(_, parts) => parts.children(),
         }
     }

@@ -1,14 +1,17 @@
 //! The properties of a value of which one was removed that was not the last.
-ghost use Rattle.std.specs.Prelude.{◌≡◌, ◌<◌, ◌^◌, [], nat_eq, length, IfSome, OnOk, OnErr, is_some, None};
+ghost use Rattle.std.specs.Prelude.{◌≡◌, ◌<◌, ◌^◌, [], nat_eq, length, ◌∷◌, IfSome, OnOk, OnErr, is_some, None};
+ghost use Rattle.std.specs.Option.{MatchOption, IfNone};
+ghost use Rattle.std.specs.declared.ops.Bound.TheVariants.{Excluded};
 ghost use Rattle.std.specs.List.{All};
 ghost use Rattle.std.specs.Map.{keys_of, lookup, remove_entry};
 ghost use Rattle.indexmap.specs.IndexMap.{insert_entry};
+ghost use Rattle.value_store.specs.OrderedMaps.{properties_from};
 
 use napi_types::{NoMemory, ValueId};
 use std::alloc::Global;
 use std::collections::BTreeMap;
-use std::collections::btree_map::Values;
 use std::marker::Model;
+use std::ops::Bound;
 
 /// Properties, each as the number of its name's text and its value, in the order in which their names were first set. A name stands
 /// once. Where one is removed no other is moved.
@@ -105,17 +108,65 @@ impl Ordered {
     }
 
     pub(crate) fn len(&self) -> usize
-        ensures { result ≡ length self.now }
+        ensures many { result ≡ length self.now }
+        ensures fits { result < 2 ^ 63 }
     {
         self.by_number.len()
     }
 
-    /// The properties in their order.
-    pub(crate) fn entries(&self) -> Values<'_, u64, (u32, ValueId)>
+    /// The properties in their order, one after another.
+    pub(crate) fn walk(&self) -> OrderedWalk<'_>
         ensures { result ≡ self.now }
     {
-        self.by_number.values()
+        OrderedWalk {
+            by_number: &self.by_number,
+            from: Bound::Unbounded,
+        }
     }
+}
+
+/// A walk over such properties in their order. Contracts see those that it has left. It is small, since each walk over a value's
+/// properties has room for it.
+#[derive(Drop)]
+pub(crate) struct OrderedWalk<'a> {
+    by_number: &'a BTreeMap<u64, (u32, ValueId)>,
+    // From which number it goes on.
+    from: Bound<u64>,
+}
+
+impl<'a> Model for OrderedWalk<'a> {
+    ghost use Rattle.std.specs.Prelude.{List, ℕ};
+    ghost use Rattle.napi_types.specs.declared.ids.ValueId.{ValueId};
+    ghost use Rattle.value_store.specs.OrderedMaps.{properties_from};
+
+    ghost Value = { List (ℕ × ValueId) };
+
+    ghost view = { λ walk. properties_from walk.from walk.by_number.now };
+}
+
+impl<'a> OrderedWalk<'a> {
+    /// The next property, `None` exactly where none is left. In time logarithmic in how many there are.
+    pub(crate) fn next(&mut self) -> Option<(u32, ValueId)>
+        ensures next { MatchOption result (self.old ≡ []) (λ p. self.old ≡ p ∷ self.new) }
+        ensures none { IfNone result (self.new ≡ self.old) }
+    {
+        let (number, property) = first_from(self.by_number, self.from)?;
+        self.from = Bound::Excluded(number);
+        Some(property)
+    }
+}
+
+/// The first property from a number on, after its own number.
+#[inline(never)]
+fn first_from(
+    by_number: &BTreeMap<u64, (u32, ValueId)>,
+    from: Bound<u64>,
+) -> Option<(u64, (u32, ValueId))>
+    ensures { MatchOption result (properties_from from by_number.now ≡ [])
+        (λ p. properties_from from by_number.now ≡ p.1 ∷ properties_from (Excluded p.0) by_number.now) }
+{
+    let (number, property) = by_number.range((from, Bound::Unbounded)).next()?;
+    Some((*number, *property))
 }
 
 /// A number above all that are there, `None` where there is none of 64 bits.

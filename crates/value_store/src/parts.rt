@@ -141,13 +141,18 @@ impl Parts {
         ensures same { HaveSameNumbers result (map (λ p. p.value) self.now.properties ++ filter_map (λ e. e) self.now.elements) }
         ensures many { length result ≡ length (map (λ p. p.value) self.now.properties ++ filter_map (λ e. e) self.now.elements) }
     {
-        Children::of(self.properties.walk(), self.elements_set())
+        Children::of(
+            self.properties.walk(),
+            self.properties.len(),
+            self.elements_set(),
+        )
     }
 
     /// The elements that were set, in the order in which they first were.
     fn elements_set(&self) -> Slice<'_, u32, ValueId>
         ensures same { HaveSameNumbers (numbers_in result) (filter_map (λ e. e) self.now.elements) }
         ensures many { length result ≡ length (filter_map (λ e. e) self.now.elements) }
+        ensures fits { length result < 2 ^ 63 }
     {
         match &self.elements {
             Some(elements) => elements.values(),

@@ -119,7 +119,8 @@ impl Properties {
     }
 
     pub(crate) fn len(&self) -> usize
-        ensures { result ≡ length self.now }
+        ensures many { result ≡ length self.now }
+        ensures fits { result < 2 ^ 63 }
     {
         match &self.listing {
             Listing::Few(entries) => entries.len(),
@@ -136,7 +137,7 @@ impl Properties {
             Listing::Few(entries) => PropertyWalk::over(EntriesLeft::Few(entries)),
             Listing::Many(map) => PropertyWalk::over(EntriesLeft::Many(map.as_slice())),
             Listing::Ordered(ordered) => {
-                PropertyWalk::over(EntriesLeft::Ordered(ordered.entries()))
+                PropertyWalk::over(EntriesLeft::Ordered(ordered.walk()))
             }
         }
     }

@@ -4,9 +4,9 @@ ghost use Rattle.std.specs.Option.{MatchOption, IfNone};
 ghost use Rattle.value_store.specs.PropertyMaps.{listed_properties};
 ghost use Rattle.value_store.specs.Walks.{entries_left};
 
+use crate::ordered::OrderedWalk;
 use indexmap::map::Slice;
 use napi_types::{TextNo, ValueId};
-use std::collections::btree_map::Values;
 use std::marker::Model;
 
 /// What a walk has left, each property as the number of its name's text and its value.
@@ -16,7 +16,7 @@ pub(crate) enum EntriesLeft<'a> {
     One(TextNo, ValueId),
     Few(&'a [(u32, ValueId)]),
     Many(Slice<'a, u32, ValueId>),
-    Ordered(Values<'a, u64, (u32, ValueId)>),
+    Ordered(OrderedWalk<'a>),
 }
 
 /// A walk over the properties of a value, in the order in which their names were first set. Contracts see those that it has left.
@@ -44,7 +44,9 @@ impl<'a> PropertyWalk<'a> {
         PropertyWalk { left }
     }
 
-    /// The name and the value of the next property, `None` exactly where none is left. Constant time, over a whole walk.
+    /// The name and the value of the next property, `None` exactly where none is left. Constant time, or
+    /// logarithmic in how many there are, since one went out of the midst of many.
+    #[inline]
     pub fn next(&mut self) -> Option<(TextNo, ValueId)>
         ensures next { MatchOption result (self.old ≡ []) (λ p. self.old ≡ record { name = p.0.0; value = p.1.0 } ∷ self.new) }
         ensures none { IfNone result (self.new ≡ self.old) }
