@@ -10,7 +10,6 @@ use Rattle.value_store.specs.PropertyMaps.{numbers_in}
 abbrev pub entries_left : EntriesLeft → List (ℕ × ValueId)
 entries_left left.Nothing = []
 entries_left (left.One name to) = (name.0, to) ∷ []
-entries_left (left.Few entries) = entries.now
 entries_left (left.Many entries) = entries
 entries_left (left.Ordered entries) = entries
 

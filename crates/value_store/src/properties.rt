@@ -134,7 +134,7 @@ impl Properties {
         ensures { result ≡ self.now }
     {
         match &self.listing {
-            Listing::Few(entries) => PropertyWalk::over(EntriesLeft::Few(entries)),
+            Listing::Few(entries) => PropertyWalk::over_few(entries),
             Listing::Many(map) => PropertyWalk::over(EntriesLeft::Many(map.as_slice())),
             Listing::Ordered(ordered) => {
                 PropertyWalk::over(EntriesLeft::Ordered(ordered.walk()))
