@@ -1,4 +1,5 @@
-"""What the tools read in the code and in the definitions: functions with their clauses, and records with their fields. It is no command."""
+"""What the tools read in the code and in the definitions: functions and types with their docstrings and clauses, and records with their fields. It is
+no command."""
 import functools
 import glob
 import os
@@ -8,20 +9,41 @@ import pages
 
 FUNCTION = re.compile(r"( *)(?:pub(?:\([a-z]+\))? )?fn (\w+)")
 OWNER = re.compile(r"(?:pub(?:\([a-z]+\))? )?(?:impl\b(?P<impl>.*)|trait (?P<trait>\w+))")
-CLAUSE = re.compile(r" +(?:requires|ensures)\*?(?: (\w+))? \{")
+CLAUSE = re.compile(r" +(requires|ensures)\*?(?: (\w+))? \{")
+DOCUMENT = re.compile(r" */// ?(.*)")
+SIGNED = re.compile(r"[{;}]$|\)(?: -> .*[^,(<])?$")
+HEAD = re.compile(r"(?://!|--) ?(.*)")
 DEFINITION = re.compile(r"(?:abbrev|unfoldable) pub (\S+)|pub (?:record|data) (\S+)")
 FIELD = re.compile(r"  pub (\w+) :")
 
 
 class Function:
-    """A function: its crate, the type or the trait that has it, the trait whose method it is, its name, and the names of its clauses, of which
-    one may be None."""
+    """A function: its crate, the type or the trait that has it, the trait whose method it is, its name, its docstring, its place in the file, the lines of its
+    signature and of its contract, and the names of its clauses, of which one may be None: those that it asks for, those that it promises, and all."""
 
-    def __init__(self, crate, owner, trait, name):
-        self.crate, self.owner, self.trait, self.name, self.clauses = crate, owner, trait, name, []
+    def __init__(self, crate, owner, trait, name, text):
+        self.crate, self.owner, self.trait, self.name, self.text, self.at = crate, owner, trait, name, text, 0
+        self.signature, self.contract, self.asked, self.promised, self.clauses = [], [], [], [], []
+        self.is_open = True
 
     def __str__(self):
         return f"{self.owner}::{self.name}" if self.owner else self.name
+
+    def is_public(self):
+        """Returns whether the function itself is marked as public, or is one of a trait."""
+        return self.signature[0].startswith("pub fn") or self.owner is not None and self.owner == self.trait
+
+    def take(self, line):
+        """Takes in a line behind the name: one more of the signature, of the contract, or of the body, which is left aside."""
+        clause, line = CLAUSE.match(line), line.strip()
+        if clause and self.is_open:
+            self.clauses.append(clause[2])
+            (self.asked if clause[1] == "requires" else self.promised).append(clause[2])
+        if self.clauses and self.is_open and not line.startswith("//"):
+            self.contract.append(line)
+        elif not self.clauses and not SIGNED.search(self.signature[-1]):
+            self.signature.append(line)
+        self.is_open = self.is_open and line != "{" and not line.endswith("};")
 
 
 def owner_of(head):
@@ -38,20 +60,23 @@ def owner_of(head):
 
 
 def functions_in(crate, path):
-    """Yields the functions of a file of code."""
-    owner, trait, now = None, None, None
-    for line in pages.text_of(path).split("\n"):
-        head, begun = OWNER.match(line), FUNCTION.match(line)
+    """Returns the functions of a file of code."""
+    found, owner, trait, now, text = [], None, None, None, []
+    for at, line in enumerate(pages.text_of(path).split("\n")):
+        head, begun, document = OWNER.match(line), FUNCTION.match(line), DOCUMENT.match(line)
         if head:
             owner, trait = owner_of(head)
         elif line == "}":
             owner, trait = None, None
         if begun:
-            now = Function(crate, owner, trait, begun[2])
-            yield now
-        clause = now and CLAUSE.match(line)
-        if clause:
-            now.clauses.append(clause[1])
+            now = Function(crate, owner, trait, begun[2], text)
+            now.signature.append(line.strip())
+            now.at = at
+            found.append(now)
+        elif now:
+            now.take(line)
+        text = text + [document[1]] if document else text if line.lstrip().startswith("#[") else []
+    return found
 
 
 def files_of(crate, side, ending):

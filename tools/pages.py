@@ -7,6 +7,7 @@ TOP = os.path.dirname(os.path.dirname(os.path.abspath(__file__)))
 NAME = re.compile(r"`(\w+)`")
 FORM = re.compile(r"`([^`]+)`")
 RANGE = re.compile(r"(-?[\d,]+) to (-?[\d,]+)")
+BY_HAND, END = "<!-- by hand -->", "<!-- end -->"
 SPECS = "crates/napi_types/specs"
 FACTS = re.compile(r"^facts_of \(?call\.(\w+).*?=(.*?)(?=^facts_of|\Z)", re.M | re.S)
 
@@ -24,6 +25,28 @@ def part_of(path, heading):
     begin = lines.index(heading) + 1
     end = next((at for at in range(begin, len(lines)) if lines[at].startswith("#")), len(lines))
     return lines[begin:end]
+
+
+def between(path, begin, end):
+    """Returns the lines of a page down to this one, those behind it up to the next one that is the end, and those from there on; no lines where
+    the page or the first line is not there."""
+    lines = text_of(path).split("\n") if os.path.exists(f"{TOP}/{path}") else []
+    if begin not in lines:
+        return [], [], []
+    first = lines.index(begin) + 1
+    last = lines.index(end, first)
+    return lines[:first], lines[first:last], lines[last:]
+
+
+def by_hand(crate):
+    """Returns the lines by hand of the page of a crate, and how many lines stand before them."""
+    before, part, _behind = between(page_of(crate), BY_HAND, END)
+    return part, len(before)
+
+
+def page_of(crate):
+    """Returns where the page of a crate stands."""
+    return f"crates/{crate}/CALLING.md"
 
 
 def tables_of(lines):
