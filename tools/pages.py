@@ -4,11 +4,11 @@ import os
 import re
 
 TOP = os.path.dirname(os.path.dirname(os.path.abspath(__file__)))
-NAME = re.compile(r"`(\w+)`")
 FORM = re.compile(r"`([^`]+)`")
 RANGE = re.compile(r"(-?[\d,]+) to (-?[\d,]+)")
 BY_HAND, END = "<!-- by hand -->", "<!-- end -->"
 SPECS = "crates/napi_types/specs"
+RETURN = {"return": ["r?"]}
 FACTS = re.compile(r"^facts_of \(?call\.(\w+).*?=(.*?)(?=^facts_of|\Z)", re.M | re.S)
 
 
@@ -63,22 +63,14 @@ def tables_of(lines):
     return tables
 
 
-def forms_by_name(table):
-    """Returns the forms of the arguments of each operation of a table of operations: an empty cell repeats the one above it."""
-    found, forms = {}, []
-    for arguments, operation, *_ in table:
-        if arguments:
-            forms = [] if arguments == "none" else arguments.strip("`").split()
-        name = NAME.match(operation)
-        if name:
-            found[name[1]] = forms
-    return found
-
-
 @functools.cache
 def operations():
-    """Returns, for an addon and for a thread, the forms of the arguments of each operation by its name."""
-    return [forms_by_name(it) for it in tables_of(part_of("docs/FORMATS.md", "### Operations"))]
+    """Returns, for an addon and for a thread, the forms of the arguments of each operation by its name: those of docs/calls.txt, and of the definitions."""
+    import call_table  # which reads this module
+    import definitions
+
+    of_addons, of_threads = {it.name: it.forms() for it in call_table.calls()}, definitions.thread_forms()
+    return [{**of_addons, **RETURN}, {name: of_threads[name] for name in of_addons if name in of_threads}]
 
 
 @functools.cache

@@ -1,0 +1,232 @@
+"""The parts of the pages that are written from docs/calls.txt and the definitions: how each reads, and where it stands. It is no command."""
+import itertools
+import re
+
+import call_table
+import definitions
+import pages
+
+WIDTH = 160
+BEGIN, END = "<!-- tools/calls writes: {} -->", "<!-- tools/calls wrote this -->"
+BUILDS = re.compile(r"(builds )(\d+ \(\d+)( %\))")
+EXAMPLES = {"r?": "-1", "w?": "-1", "n": "7", "u": "1", "i": "-3", "b": "true", "t": '"size"', "t?": '"E1"', "e": "0", "e?": "-1", "m": "0", "job": '["sum",100]', "rs": "[2,3]"}
+
+
+# TABLES
+def line_of(cells):
+    """Returns a line of a table."""
+    return "| " + " | ".join(cells) + " |" if all(cells) else re.sub(r"\|  (?=\|)", "| ", "| " + " | ".join(cells) + " |")
+
+
+def places_to_cut(text):
+    """Returns the places at which a cell may be cut: the spaces that stand in no brackets and between no backquotes, and those behind a `;` or `,` alone where
+    there are some."""
+    depth, is_code, found = 0, False, []
+    for at, letter in enumerate(text):
+        is_code ^= letter == "`"
+        depth += (letter in "([") - (letter in ")]")
+        if letter == " " and depth <= 0 and not is_code and at > 0:
+            found.append(at)
+    return [it for it in found if text[it - 1] in ";,"] or found
+
+
+def folded(cells):
+    """Yields the lines of a row: where it is too long the ends of its cells stand in lines below it, in which all else is empty."""
+    cells = list(cells)
+    rest = [""] * len(cells)
+    while len(line_of(cells)) > WIDTH:
+        at, cut = max(((len(it), at, places_to_cut(it)[-1]) for at, it in enumerate(cells) if places_to_cut(it)), default=(0, 0, 0))[1:]
+        if not cut:
+            break
+        rest[at] = f"{cells[at][cut + 1 :]} {rest[at]}".strip()
+        cells[at] = cells[at][:cut]
+    yield line_of(cells)
+    if any(rest):
+        yield from folded(rest)
+
+
+def table(head, rows):
+    """Returns the lines of a table."""
+    return [line_of(head), "|" + "---|" * len(head), *(line for it in rows for line in folded(it))]
+
+
+def named(function):
+    """Returns words that say since which version the manual has a function, where that is no version 9."""
+    return f" (from version {function.since} on)" if function.since > call_table.FIRST_VERSION else ""
+
+
+# FORMATS
+def example(name, forms):
+    """Returns an operation of this name with arguments of these forms."""
+    registers, found = itertools.count(1), []
+    for form in forms:
+        found.append(EXAMPLES.get(form) or str(next(registers)))
+    return "`[" + ",".join([f'"{name}"', *found]) + "]`"
+
+
+def by_forms(table_of_forms):
+    """Returns the rows of a table of operations, by the forms of the arguments."""
+    groups = {}
+    for name, forms in table_of_forms.items():
+        groups.setdefault(tuple(forms), []).append(name)
+    ordered = sorted(groups.items(), key=lambda it: len(it[0]))
+    return [[f"`{' '.join(forms)}`" if forms else "none", ", ".join(f"`{it}`" for it in names), example(names[0], forms)] for forms, names in ordered]
+
+
+def operations():
+    """Returns the table of the operations of an addon."""
+    return table(["Arguments", "Operations", "An example, of the first"], by_forms(pages.operations()[0]))
+
+
+def thread_operations():
+    """Returns the table of the operations of a thread."""
+    return table(["Arguments", "Operations", "An example, of the first"], by_forms(pages.operations()[1]))
+
+
+def operation_cell(call):
+    """Returns an operation with the forms of its arguments, and their names."""
+    names = f" ({', '.join(call.names)})" if call.names else ""
+    return "`[" + ", ".join([f'"{call.name}"', *call.forms()]) + "]`" + names + named(call)
+
+
+def trace_cell(call):
+    """Returns what the trace has for the result of a call."""
+    trace, note = call.result.trace, call.note
+    return f"{trace}, {note}" if note and "`" in trace else note or trace
+
+
+def by_heading(cells_of, functions, columns):
+    """Returns the rows of a table with a row of its own for each heading."""
+    rows = []
+    for heading, of in itertools.groupby(functions, lambda it: it.heading):
+        first, colon, second = heading.partition(": ")
+        rows += [[f"**{first}**{colon}{second}", *[""] * (columns - 1)], *map(cells_of, of)]
+    return rows
+
+
+def calls():
+    """Returns the table of calls of FORMATS."""
+
+    def cells_of(call):
+        return [operation_cell(call), "; ".join(call.refusals), trace_cell(call), call.result.kept]
+
+    return table(["Operation", "Refusals of its own", "Result in the trace", "Kept in `w`"], by_heading(cells_of, call_table.calls(), 4))
+
+
+def registering():
+    """Returns the sentence that lists the calls that register."""
+    found = {}
+    for it in call_table.calls():
+        found.setdefault(definitions.facts_of(it.name).registers, []).append(f"`{it.name}`")
+    always = found.pop("true")
+    found.pop("false")
+    with_finalizer = [it for names in found.values() for it in names]
+    text = f"These register: {', '.join(always[:-1])} and {always[-1]}; and {', '.join(with_finalizer[:-1])} and {with_finalizer[-1]} where they name a finalizer."
+    return filled(text)
+
+
+def filled(text):
+    """Returns a paragraph as lines that are not too long."""
+    lines = [""]
+    for word in text.split(" "):
+        if len(lines[-1]) + len(word) >= WIDTH:
+            lines.append("")
+        lines[-1] = f"{lines[-1]} {word}".strip()
+    return lines
+
+
+# NODE
+def answers_cell(call):
+    """Returns the statuses with which a call is refused: for its moment, for what is unknown, and its own."""
+    facts = definitions.facts_of(call.name)
+    moment = {"true": ["9 in the teardown"], "false": []}.get(facts.registers, ["9 with a finalizer, in the teardown"])
+    return "; ".join([*([] if facts.guarded else moment), *(["1 unknown"] if facts.names_some else []), *call.refusals])
+
+
+def node_calls():
+    """Returns the table of calls of NODE."""
+
+    def cells_of(call):
+        guarded = "yes" if definitions.facts_of(call.name).guarded else "no"
+        name = call.manual if call.is_of_manual() else call.name
+        return [f"`{name}`{named(call)}", guarded, answers_cell(call), call.result.issues]
+
+    return table(["Call", "Guarded", "Answers beside 0", "Issues"], by_heading(cells_of, call_table.calls(), 4))
+
+
+def counts():
+    """Returns how many functions the manual has, how many of them are built, and how many of a hundred these are."""
+    of_manual = [it for it in call_table.functions() if it.is_of_manual()]
+    built = sum(1 for it in of_manual if it.name)
+    return len(of_manual), built, round(100 * built / len(of_manual))
+
+
+def functions():
+    """Returns the paragraph and the table of NODE that tell which functions are here."""
+    of_manual = [it for it in call_table.functions() if it.is_of_manual()]
+    total, built, percent = counts()
+    versions = sorted({it.since for it in of_manual})
+    many = [f"{sum(1 for it in of_manual if it.since <= version)} functions at version {version}" for version in versions]
+    text = (
+        f"The manual has {' and '.join(many)}: those that Node's headers declare with `NAPI_VERSION` {' and '.join(map(str, versions))}, the macros of module "
+        f"registration left aside. Of these {built} are built ({percent} %). The other {total - built} are not here: a script cannot name them. The headings are the manual's."
+    )
+    rows = []
+    for heading, of in itertools.groupby(of_manual, lambda it: it.heading.partition(": ")[0]):
+        of = list(of)
+        here = sum(1 for it in of if it.name)
+        rows.append([heading, str(here or ""), ", ".join(f"`{it.manual}`{named(it)}" for it in of if not it.name)])
+    rows.append(["**all**", f"**{built}**", f"**{total - built}**"])
+    return [*filled(text), "", *table(["Heading", "Built", "Not here"], rows)]
+
+
+# EMBEDDING
+def results():
+    """Returns the table of the results of calls."""
+    rows = []
+    for result in call_table.results():
+        names = [f"`{it.name}`" for it in call_table.calls() if it.result is result]
+        rows += [[result.addon, ", ".join(names)]] if names else []
+    return table(["`Out`", "Of which calls"], rows)
+
+
+PARTS = {
+    "docs/FORMATS.md": {"operations": operations, "operations of a thread": thread_operations, "calls": calls, "calls that register": registering},
+    "docs/NODE.md": {"functions": functions, "calls": node_calls},
+    "docs/EMBEDDING.md": {"results": results},
+}
+
+
+class NoPart(Exception):
+    """A page has not the lines between which a part is written."""
+
+
+def with_part(path, text, name, lines):
+    """Returns the text of a page with these lines as the part of this name."""
+    begin, end = f"{BEGIN.format(name)}\n\n", f"\n\n{END}\n"
+    before, found, rest = text.partition(begin)
+    _old, ended, after = rest.partition(end)
+    if not found or not ended or begin in after:
+        raise NoPart(f"{path} has not the lines {BEGIN.format(name)} and {END}, once, with an empty line behind and before")
+    return before + begin + "\n".join(lines) + end + after
+
+
+def page_of(path):
+    """Returns what a page has to be."""
+    text = pages.text_of(path)
+    for name, lines in PARTS[path].items():
+        text = with_part(path, text, name, lines())
+    return text
+
+
+def readme():
+    """Returns what README has to be."""
+    text, (_total, built, percent) = pages.text_of("README.md"), counts()
+    if len(BUILDS.findall(text)) != 1:
+        raise NoPart("README.md has not the words `builds N (P %)`, once")
+    return BUILDS.sub(rf"\g<1>{built} ({percent}\3", text)
+
+
+def written():
+    """Returns what each page has to be, by its path."""
+    return {**{path: page_of(path) for path in PARTS}, "README.md": readme()}
