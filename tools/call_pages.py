@@ -9,37 +9,43 @@ import pages
 WIDTH = 160
 BEGIN, END = "<!-- tools/calls writes: {} -->", "<!-- tools/calls wrote this -->"
 BUILDS = re.compile(r"(builds )(\d+ \(\d+)( %\))")
-EXAMPLES = {"r?": "-1", "w?": "-1", "n": "7", "u": "1", "i": "-3", "b": "true", "t": '"size"', "t?": '"E1"', "e": "0", "e?": "-1", "m": "0", "job": '["sum",100]', "rs": "[2,3]"}
+EXAMPLES = {
+    "r?": "-1", "w?": "-1", "n": "7", "u": "1", "i": "-3", "b": "true", "t": '"size"', "t?": '"E1"', "e": "0", "e?": "-1", "m": "0",
+    "job": '["sum",100]', "rs": "[2,3]",
+}
 
 
 # TABLES
 def line_of(cells):
     """Returns a line of a table."""
-    return "| " + " | ".join(cells) + " |" if all(cells) else re.sub(r"\|  (?=\|)", "| ", "| " + " | ".join(cells) + " |")
+    return "|" + "|".join(f" {it} " if it else " " for it in cells) + "|"
 
 
 def places_to_cut(text):
-    """Returns the places at which a cell may be cut: the spaces that stand in no brackets and between no backquotes, and those behind a `;` or `,` alone where
-    there are some."""
+    """Returns the places at which a cell may be cut: the spaces that stand in no brackets and between no backquotes; those behind a `;` alone where there are
+    some, or else those behind a `,`."""
     depth, is_code, found = 0, False, []
     for at, letter in enumerate(text):
         is_code ^= letter == "`"
         depth += (letter in "([") - (letter in ")]")
-        if letter == " " and depth <= 0 and not is_code and at > 0:
+        if letter == " " and depth <= 0 and not is_code:
             found.append(at)
-    return [it for it in found if text[it - 1] in ";,"] or found
+    return next((of for of in ([it for it in found if text[it - 1] == sign] for sign in ";,") if of), found)
+
+
+def cut(cells):
+    """Returns the longest cell that may be cut, as its number, and the place of its last cut; None where there is no such cell."""
+    found = [(len(it), at, places[-1]) for at, it in enumerate(cells) for places in [places_to_cut(it)] if places]
+    return max(found)[1:] if found else None
 
 
 def folded(cells):
     """Yields the lines of a row: where it is too long the ends of its cells stand in lines below it, in which all else is empty."""
-    cells = list(cells)
-    rest = [""] * len(cells)
-    while len(line_of(cells)) > WIDTH:
-        at, cut = max(((len(it), at, places_to_cut(it)[-1]) for at, it in enumerate(cells) if places_to_cut(it)), default=(0, 0, 0))[1:]
-        if not cut:
-            break
-        rest[at] = f"{cells[at][cut + 1 :]} {rest[at]}".strip()
-        cells[at] = cells[at][:cut]
+    cells, rest = list(cells), [""] * len(cells)
+    while len(line_of(cells)) > WIDTH and cut(cells):
+        at, place = cut(cells)
+        rest[at] = f"{cells[at][place + 1 :]} {rest[at]}".strip()
+        cells[at] = cells[at][:place]
     yield line_of(cells)
     if any(rest):
         yield from folded(rest)
@@ -118,11 +124,13 @@ def registering():
     found = {}
     for it in call_table.calls():
         found.setdefault(definitions.facts_of(it.name).registers, []).append(f"`{it.name}`")
-    always = found.pop("true")
-    found.pop("false")
-    with_finalizer = [it for names in found.values() for it in names]
-    text = f"These register: {', '.join(always[:-1])} and {always[-1]}; and {', '.join(with_finalizer[:-1])} and {with_finalizer[-1]} where they name a finalizer."
-    return filled(text)
+    always, with_finalizer = found.pop("true"), [it for text, names in found.items() if text != "false" for it in names]
+    return filled(f"These register: {listed(always)}; and {listed(with_finalizer)} where they name a finalizer.")
+
+
+def listed(words):
+    """Returns words as a list in a sentence."""
+    return f"{', '.join(words[:-1])} and {words[-1]}" if len(words) > 1 else words[0]
 
 
 def filled(text):
@@ -168,8 +176,9 @@ def functions():
     versions = sorted({it.since for it in of_manual})
     many = [f"{sum(1 for it in of_manual if it.since <= version)} functions at version {version}" for version in versions]
     text = (
-        f"The manual has {' and '.join(many)}: those that Node's headers declare with `NAPI_VERSION` {' and '.join(map(str, versions))}, the macros of module "
-        f"registration left aside. Of these {built} are built ({percent} %). The other {total - built} are not here: a script cannot name them. The headings are the manual's."
+        f"The manual has {listed(many)}: those that Node's headers declare with `NAPI_VERSION` {listed([str(it) for it in versions])}, the macros of "
+        f"module registration left aside. Of these {built} are built ({percent} %). The other {total - built} are not here: a script cannot name them. "
+        "The headings are the manual's."
     )
     rows = []
     for heading, of in itertools.groupby(of_manual, lambda it: it.heading.partition(": ")[0]):

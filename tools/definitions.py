@@ -81,18 +81,17 @@ def right_of(name, word):
     return next((it.right for it in of if it.has(word)), of[-1].right)
 
 
-def words_of(text, variant, bound=(), without=(), seen=None):
-    """Yields what a text of the definitions comes to for a call, in its order: each status, `Out` and number, as `status` and its name, with what stands for
-    them in the definitions that it names, each of which is gone into once. `bound` are names that are no definitions there."""
-    seen = set(without) if seen is None else seen
-    bound = set(bound) | set(re.findall(r"\w+", " ".join(re.findall(r"λ ([\w ]+)\.", text))))
+def words_of(text, variant, seen, bound=()):
+    """Yields what a text of the definitions comes to for a call, in its order: each status, `Out` and number, as `status` and its name. What a definition that
+    it names comes to stands in its place, but for those that were seen before, and for names that are bound there."""
+    bound = {*bound, *re.findall(r"\w+", " ".join(re.findall(r"λ ([\w ]+)\.", text)))}
     for kind, name, digits, word in WORD.findall(text):
         if kind or digits:
             yield kind or "number", name or int(digits)
         elif word in definitions() and word not in bound and word not in seen:
             seen.add(word)
             for clause in clauses_for(word, variant):
-                yield from words_of(clause.right, variant, re.findall(r"\w+", clause.left), (), seen)
+                yield from words_of(clause.right, variant, seen, re.findall(r"\w+", clause.left))
 
 
 def without_accepted(text):
@@ -109,7 +108,7 @@ def without_accepted(text):
 
 
 def parts_of(text):
-    """Returns the fields of a record that the text of a group is, by their names; a group that is no record, or one upon another, has those of its text."""
+    """Returns the fields that the text of a record names, by their names; a text that is no record has none."""
     return dict(FIELD.findall(text)) if text.startswith("record") else {}
 
 
@@ -158,8 +157,8 @@ class Facts:
 
     def answers(self):
         """Returns the variants of `Out` that it gives at once; a call of a function gives none."""
-        found = [words_of(it, self.variant, without=("refuses",)) for it in self.answering()]
-        return {name for of in found for kind, name in of if kind == "out"}
+        seen = {"refuses"}
+        return {name for it in self.answering() for kind, name in words_of(it, self.variant, seen) if kind == "out"}
 
     def outs(self):
         """Returns the variants of `Out` that it gives: where it gives none at once, what the end of the frame that it enters gives at the status 0."""
@@ -170,7 +169,7 @@ class Facts:
         """Finds the statuses of its own refusals, and the numbers in those."""
         numbers, found, seen = status_numbers(), [], {"unknown_reference"}
         for text in self.refusing():
-            found += list(words_of(text, self.variant, seen=seen))
+            found += words_of(text, self.variant, seen)
         self.statuses_by_name = [name for kind, name in found if kind == "status" and name != "Ok"]
         self.statuses = [str(numbers[it]) for it in self.statuses_by_name]
         self.numbers = {name for kind, name in found if kind == "number"}
