@@ -8,7 +8,11 @@ import pages
 
 WIDTH = 160
 BEGIN, END = "<!-- tools/calls writes: {} -->", "<!-- tools/calls wrote this -->"
-BUILDS = re.compile(r"(builds )(\d+ \(\d+)( %\))")
+README = "README.md", re.compile(r"(?<=builds )\d+ \(\d+(?= %\))")
+ELSEWHERE = {
+    "docs/OPEN.md": re.compile(r"(?<=cannot name )\d+ of the manual's \d+(?= functions)"),
+    "docs/MACHINE.md": re.compile(r"(?<=variant for each of the )\d+(?=\.)"),
+}
 EXAMPLES = {
     "r?": "-1", "w?": "-1", "n": "7", "u": "1", "i": "-3", "b": "true", "t": '"size"', "t?": '"E1"', "e": "0", "e?": "-1", "m": "0",
     "job": '["sum",100]', "rs": "[2,3]",
@@ -189,6 +193,16 @@ def functions():
     return [*filled(text), "", *table(["Heading", "Built", "Not here"], rows)]
 
 
+def statuses():
+    """Returns the table of the statuses that calls answer, and of that of a cancelled work, with their numbers."""
+    names = {name for it in definitions.facts().values() for name in it.statuses_by_name}
+    names |= {"Ok", "InvalidArg", "Cancelled", *definitions.moment_statuses()}
+    found = sorted((number, name) for name, number in definitions.status_numbers().items() if name in names)
+    cells = [[str(number), f"`napi{re.sub('[A-Z]', lambda it: f'_{it[0].lower()}', name)}`"] for number, name in found]
+    half = (len(cells) + 1) // 2
+    return table(["Number", "Name"] * 2, [left + right for left, right in itertools.zip_longest(cells[:half], cells[half:], fillvalue=["", ""])])
+
+
 # EMBEDDING
 def results():
     """Returns the table of the results of calls."""
@@ -201,7 +215,7 @@ def results():
 
 PARTS = {
     "docs/FORMATS.md": {"operations": operations, "operations of a thread": thread_operations, "calls": calls, "calls that register": registering},
-    "docs/NODE.md": {"functions": functions, "calls": node_calls},
+    "docs/NODE.md": {"functions": functions, "calls": node_calls, "statuses": statuses},
     "docs/EMBEDDING.md": {"results": results},
 }
 
@@ -228,14 +242,20 @@ def page_of(path):
     return text
 
 
-def readme():
-    """Returns what README has to be."""
-    text, (_total, built, percent) = pages.text_of("README.md"), counts()
-    if len(BUILDS.findall(text)) != 1:
-        raise NoPart("README.md has not the words `builds N (P %)`, once")
-    return BUILDS.sub(rf"\g<1>{built} ({percent}\3", text)
+def numbers():
+    """Returns the numbers of calls and functions that stand between fixed words of other pages, by their paths."""
+    total, built, percent = counts()
+    return {README[0]: f"{built} ({percent}", "docs/OPEN.md": f"{total - built} of the manual's {total}", "docs/MACHINE.md": str(len(call_table.calls()))}
+
+
+def with_numbers(path, pattern):
+    """Returns what a page has to be that has these numbers where the words stand, if they stand there."""
+    return pattern.sub(numbers()[path], pages.text_of(path))
 
 
 def written():
     """Returns what each page has to be, by its path."""
-    return {**{path: page_of(path) for path in PARTS}, "README.md": readme()}
+    path, pattern = README
+    if len(pattern.findall(pages.text_of(path))) != 1:
+        raise NoPart(f"{path} has not the words `builds N (P %)`, once")
+    return {**{it: page_of(it) for it in PARTS}, **{it: with_numbers(it, of) for it, of in {path: pattern, **ELSEWHERE}.items()}}

@@ -118,6 +118,11 @@ def status_numbers():
     return {re.search(r"status\.(\w+)", it.left)[1]: int(it.right) for it in clauses_of("status_number")}
 
 
+def moment_statuses():
+    """Returns the statuses of the refusals of calls that come at a wrong moment."""
+    return {name for kind, name in words_of("moment_refusal", "", set()) if kind == "status"}
+
+
 class Facts:
     """What the definitions tell of a call: its variant; whether it is guarded, and whether it registers, always or with a finalizer; whether a handle or a
     reference that it names may be unknown; the statuses of its own refusals in their order; the numbers in those; and the variants of `Out` that it gives."""
