@@ -130,8 +130,10 @@ class Facts:
     def __init__(self, variant):
         self.variant = variant
         row = clauses_for("facts_of", variant)[0].right
-        fields = parts_of(row)
-        self.group = re.search(r"\b(?:in_group )(\w+)", row)[1]
+        fields, group = parts_of(row), re.search(r"\bin_group (\w+)", row)
+        if not group:
+            raise NoDefinition(f"`facts_of` tells no group of {variant}")
+        self.group = group[1]
         self.guarded = fields.get("guarded") == "true"
         self.registers = fields.get("registers", "false")
         self.names_some = "handles" in fields or "references" in fields
