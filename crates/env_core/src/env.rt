@@ -6,7 +6,7 @@ ghost use Rattle.napi_types.specs.plain.CallFacts.{AreFactsOf};
 ghost use Rattle.napi_types.specs.plain.CallKinds.{is_calling, is_value_call};
 ghost use Rattle.napi_types.specs.plain.Guards.{is_shared};
 ghost use Rattle.napi_types.specs.plain.Lists.{head, tail};
-ghost use Rattle.napi_types.specs.plain.Numbers.{napi_version};
+ghost use Rattle.napi_types.specs.plain.Numbers.{is_supported};
 ghost use Rattle.napi_types.specs.plain.Phases.{next_phase};
 ghost use Rattle.napi_types.specs.plain.Room.{is_full, one_if, most_entries};
 ghost use Rattle.napi_types.specs.parts.Frames.{asks_made, cause_of, duty_of, is_hub_duty, most_asks};
@@ -79,7 +79,7 @@ impl Model for EnvCore {
 impl EnvCore {
     /// Opens an environment and writes the entry `opened`.
     ///
-    /// `version` is `NAPI_VERSION`. `addons` and `texts` say how many the script has. `limits.journal` is from 2 + 2 · `addons`,
+    /// `version` is 9 or 10. `addons` and `texts` say how many the script has. `limits.journal` is from 2 + 2 · `addons`,
     /// the places of the events that every run has, to 4,194,304; `limits.history` is not read. The memory of the journal's
     /// first places is taken here.
     pub fn new(
@@ -89,14 +89,14 @@ impl EnvCore {
         texts: u32,
         limits: Limits,
     ) -> Result<EnvCore, NoMemory>
-        requires version { version ≡ napi_version }
+        requires version { is_supported version ≡ true }
         requires room { 2 + 2 * addons ≤ limits.journal }
         requires most { limits.journal ≤ most_entries }
-        ensures { IfOk result (λ core. core ≡ opened_core (record { addons = addons; texts = texts }) limits.journal) }
+        ensures { IfOk result (λ core. core ≡ opened_core (record { version = version; addons = addons; texts = texts }) limits.journal) }
     {
         let mut journal = Journal::new(alloc, limits.journal, 2 + 2 * addons)?;
-        let mut state = State::new(alloc, addons, texts)?;
-        journal.push(state.open(version));
+        let mut state = State::new(alloc, version, addons, texts)?;
+        journal.push(state.open());
         Ok(EnvCore {
             state,
             journal,

@@ -1,12 +1,12 @@
 //! The environment's state without its journal: values, scopes, the frames that stand, and how far the run has come.
-ghost use Rattle.std.specs.Prelude.{◌≡◌, ◌≢◌, ◌+◌, ◌<◌, ◌^◌, [], length, true, false, option_map, Some, None, IfOk, OnErr, IsTrue};
+ghost use Rattle.std.specs.Prelude.{◌≡◌, ◌≢◌, ◌+◌, ◌<◌, ◌^◌, [], length, true, false, is_some, option_map, Some, None, IfOk, OnErr, IsTrue};
 ghost use Rattle.napi_types.specs.declared.call.Call.TheVariants as call_of;
 ghost use Rattle.napi_types.specs.plain.CallFacts.{group_of};
 ghost use Rattle.napi_types.specs.plain.CallKinds.{is_calling, is_value_call};
 ghost use Rattle.napi_types.specs.plain.Entries.{host_entry as entry_of, host_told as told_of};
 ghost use Rattle.napi_types.specs.plain.Guards.{is_shared};
 ghost use Rattle.napi_types.specs.plain.Lists.{head};
-ghost use Rattle.napi_types.specs.plain.Numbers.{napi_version};
+ghost use Rattle.napi_types.specs.plain.Numbers.{is_ten_or_later};
 ghost use Rattle.napi_types.specs.plain.Replies.{plain as plain_reply};
 ghost use Rattle.napi_types.specs.parts.Frames.{caller_of, asks_made, most_asks};
 ghost use Rattle.napi_types.specs.parts.NamedNumbers.{is_known};
@@ -14,7 +14,7 @@ ghost use Rattle.napi_types.specs.parts.Properties.{most_names};
 ghost use Rattle.napi_types.specs.environment.Changes.{opening_change, init_change, gone_change, in_phase, with_noted_status, call_entry};
 ghost use Rattle.napi_types.specs.environment.Environment.{new_environment};
 ghost use Rattle.napi_types.specs.environment.Hooked.{IsHooked};
-ghost use Rattle.napi_types.specs.environment.Moments.{is_tearing, moment_refusal};
+ghost use Rattle.napi_types.specs.environment.Moments.{guard_status, is_tearing, moment_refusal};
 ghost use Rattle.napi_types.specs.environment.Refusals.{timely_refusal, early_refusal};
 ghost use Rattle.napi_types.specs.environment.Registering.{finalizer_if};
 ghost use Rattle.env_core.specs.Standing.{machine_frame};
@@ -44,8 +44,8 @@ use exception_state::Exceptions;
 use handle_scope::{ScopeKind, Scopes};
 use napi_reference::Refs;
 use napi_types::{
-    Actor, Call, CallGroup, Cause, Entry, HandleId, HostStep, NAPI_VERSION, NoMemory, Out, Phase,
-    Reply, ScopeId, Status, TextNo, What,
+    Actor, Call, CallGroup, Cause, Entry, HIGHEST_VERSION, HandleId, HostStep, NoMemory, Out,
+    Phase, Reply, ScopeId, Status, TextNo, What,
 };
 use std::alloc::Global;
 use std::marker::Model;
@@ -55,6 +55,7 @@ use value_store::Store;
 #[derive(Drop)]
 pub struct State {
     alloc: Global,
+    version: u32,
     addons: u32,
     texts: u32,
     opened: bool,
@@ -85,6 +86,7 @@ impl Model for State {
     ghost use Rattle.env_core.specs.State.{pending_seen, IsState};
 
     ghost view = { λ state. record {
+      version = state.version;
       addons = state.addons;
       texts = state.texts;
       opened = state.opened;
@@ -110,8 +112,8 @@ impl Model for State {
 
 impl State {
     /// The state before the opening, with the five starting values.
-    pub fn new(alloc: Global, addons: u32, texts: u32) -> Result<State, NoMemory>
-        ensures { IfOk result (λ state. state ≡ new_environment (record { addons = addons; texts = texts })) }
+    pub fn new(alloc: Global, version: u32, addons: u32, texts: u32) -> Result<State, NoMemory>
+        ensures { IfOk result (λ state. state ≡ new_environment (record { version = version; addons = addons; texts = texts })) }
     {
         let store = Store::new(alloc)?;
         let scopes = Scopes::new(alloc)?;
@@ -120,6 +122,7 @@ impl State {
         let registry = Registry::new(alloc, addons)?;
         Ok(State {
             alloc,
+            version,
             addons,
             texts,
             opened: false,
@@ -136,14 +139,13 @@ impl State {
         })
     }
 
-    /// The opening, which tells the version.
-    pub fn open(&mut self, version: u32) -> Entry
-        requires { version ≡ napi_version }
+    /// The opening, which tells the version that the script asks for.
+    pub fn open(&mut self) -> Entry
         ensures entry { result ≡ (opening_change self.old).entry }
         ensures after { self.new ≡ (opening_change self.old).after }
     {
         self.opened = true;
-        host_entry(HostStep::Opened, Out::Unsigned(u64::from(version)))
+        host_entry(HostStep::Opened, Out::Unsigned(u64::from(self.version)))
     }
 
     /// The init frame of the next addon begins.
@@ -270,12 +272,31 @@ impl State {
         let pending = self.exceptions.pending().is_some();
         let tearing = self.is_tearing();
         if (pending || tearing) && call.facts().guarded {
-            return Some(Status::PendingException);
+            return Some(self.guard_status(pending));
         }
         if tearing && call.facts().registers {
             return Some(Status::GenericFailure);
         }
         None
+    }
+
+    /// Why a guarded call is refused, while an exception is pending or else in the teardown.
+    fn guard_status(&self, pending: bool) -> Status
+        requires { pending ≡ is_some self.now.pending }
+        ensures { result ≡ guard_status self.now }
+    {
+        if !pending && self.is_ten_or_later() {
+            Status::CannotRunJs
+        } else {
+            Status::PendingException
+        }
+    }
+
+    /// Whether what version 10 changed holds.
+    fn is_ten_or_later(&self) -> bool
+        ensures { result ≡ is_ten_or_later self.now.version }
+    {
+        self.version >= 10
     }
 
     /// Whether the teardown has started.
@@ -344,7 +365,9 @@ impl State {
         ensures { AnswersInTime self.now call.now result self.now }
     {
         match call {
-            Call::GetVersion => { Reply::plain(Status::Ok, Out::Unsigned(u64::from(NAPI_VERSION))) }
+            Call::GetVersion => {
+                Reply::plain(Status::Ok, Out::Unsigned(u64::from(HIGHEST_VERSION)))
+            }
             _ => unreachable!(),
         }
     }

@@ -30,7 +30,7 @@ use Rattle.env_loop.proofs.FollowedRuns.{fitting-runs-stand}
 
 -- what the environment of these tests is opened with
 abbrev one_addon : OpenedWith
-one_addon = record { addons = 1; texts = 0 }
+one_addon = record { version = 9; addons = 1; texts = 0 }
 
 -- a hub that opened fits a run of which no turn was made
 pub opened-fits : (n : Numbers) (journal : ℕ) (start : Run) (seen : HubSeen) → start ≡ opened_run (opened_core one_addon journal) → seen ≡ hub_seen n []

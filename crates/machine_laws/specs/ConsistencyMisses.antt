@@ -21,7 +21,7 @@ init_frame = frame_of cause.Init 0 0
 
 -- an environment of one addon and three texts
 abbrev pub small_environment : Environment
-small_environment = new_environment (record { addons = 1; texts = 3 })
+small_environment = new_environment (record { version = 9; addons = 1; texts = 3 })
 
 -- a heap in which one frame's own scope holds these handles, and two handles were issued
 abbrev pub holding : List OpenHandle → Heap

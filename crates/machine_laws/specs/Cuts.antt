@@ -61,7 +61,7 @@ HubDutiesStandInTheHub = (s : Setting) (bs : List Ask) (xs : List Entry) → IsR
 -- A TIGHT JOURNAL
 -- a script of one addon that tells no plan, with room for so many entries in the journal: four are needed without any call, and so many has the history
 abbrev pub script_within : ℕ → Setting
-script_within room = record { plans = None ∷ []; texts = 3; threads = 0; workers = 0; limits = record { journal = room; history = 4 } }
+script_within room = record { version = 9; plans = None ∷ []; texts = 3; threads = 0; workers = 0; limits = record { journal = room; history = 4 } }
 
 -- one place is left for calls
 abbrev pub tight : Setting

@@ -23,9 +23,11 @@ use Rattle.napi_types.specs.parts.Book.{ticket_duty}
 use Rattle.napi_types.specs.scripts.Plans.{Plan}
 use Rattle.napi_types.specs.runs.Setting.{Setting}
 
--- a script of addons with these plans, without threads and workers, with the three texts that every script has and room for the most entries in each list
+-- a script of version 9 of addons with these plans, without threads and workers, with the three texts that every script has and room for the most entries in
+-- each list
 abbrev pub script_of_plans : List Plan → Setting
 script_of_plans plans = record {
+  version = 9;
   plans = plans;
   texts = 3;
   threads = 0;

@@ -5,13 +5,16 @@ ghost use Rattle.napi_types.specs.scripts.ScriptPaths.{path};
 use crate::{Actors, NoMemory, OpLists, Plans, Text, Texts};
 use std::alloc::{AllocError, Global};
 
-/// The version of Node-API that a script asks for and the environment speaks.
-pub const NAPI_VERSION: u32 = 9;
+/// The lowest version of Node-API that a script may ask for.
+pub const LOWEST_VERSION: u32 = 9;
+
+/// The highest one, which `get_version` tells whatever the script asked for.
+pub const HIGHEST_VERSION: u32 = 10;
 
 /// A script, as it was read.
 #[derive(Drop)]
 pub struct Script {
-    /// The Node-API version, `NAPI_VERSION`.
+    /// The Node-API version that it asks for, from `LOWEST_VERSION` to `HIGHEST_VERSION`.
     pub version: u32,
     /// How many workers the run has.
     pub workers: u32,

@@ -59,6 +59,7 @@ addons-few found r e =
 
 -- the parts of a script, as they were read
 pub record ScriptParts (d : Data) (s : Script) : Type 0 where
+  pub version : version_in (get (codes "version") d) ≡ Ok s.version
   pub workers : workers_in (get (codes "workers") d) ≡ Ok s.workers
   pub few : length s.addons ≤ 8
   pub threads : threads_in (get (codes "threads") d) ≡ Ok s.threads
@@ -74,8 +75,9 @@ parts-of d s e =
     let threads : Both (threads_in (get (codes "threads") d)) _ s = both (threads_in (get (codes "threads") d)) _ s addons.then in
     let schedule : Both (schedule_in (length threads.first) workers.first (get (codes "schedule") d)) _ s =
     both (schedule_in (length threads.first) workers.first (get (codes "schedule") d)) _ s threads.then in
-    let same : record { version = 9; workers = workers.first; addons = addons.first.found; threads = threads.first; schedule = schedule.first; texts = addons.first.texts } ≡ s = cc in
+    let same : record { version = version.first; workers = workers.first; addons = addons.first.found; threads = threads.first; schedule = schedule.first; texts = addons.first.texts } ≡ s = cc in
     subst (ScriptParts d) same (record {
+      version = version.was;
       workers = workers.was;
       few = addons-few (get (codes "addons") d) addons.first addons.was;
       threads = threads.was;

@@ -14,10 +14,11 @@ use Rattle.napi_types.specs.declared.script.LimitName.TheVariants as limit
 use Rattle.napi_types.specs.declared.script.Place.{Place}
 use Rattle.napi_types.specs.declared.script.Place.TheVariants as place
 use Rattle.napi_types.specs.declared.script.Script.{Script}
-use Rattle.napi_types.specs.scripts.Script.{workers_in, threads_in}
+use Rattle.napi_types.specs.plain.Numbers.{is_supported}
+use Rattle.napi_types.specs.scripts.Script.{version_in, workers_in, threads_in}
 use Rattle.napi_types.specs.scripts.ScriptArguments.{whole, mode_number, release_number, text_argument}
 use Rattle.napi_types.specs.scripts.ScriptOperations.{named, operation_name, thread_acquire, thread_release, thread_call, thread_operation_named, thread_operation}
-use Rattle.napi_types.specs.scripts.ScriptReading.{Reading, formed, list_at, every, within_limit}
+use Rattle.napi_types.specs.scripts.ScriptReading.{Reading, formed, list_at, every, when_formed, within_limit}
 use Rattle.napi_types.specs.scripts.ScriptSchedule.{small_number, number_below, lettered, actor_named, actor_in}
 use Rattle.napi_types.specs.scripts.ScriptThreads.{thread_operation_at, thread_at, word_at, schedule_in}
 use Rattle.env_loop.specs.ActorRuns.{IsOperationOfThread}
@@ -208,11 +209,25 @@ are-words threads workers (Some d) schedule e =
     subst (λ o. IfSome o (All (IsActorAt (hub_numbers threads workers)))) same
     (every-all (IsActorAt (hub_numbers threads workers)) (word_at threads workers) (of-word threads workers) 0 items.first words.first words.was)
 
+-- the version of a script is one that is supported
+is-formed : (p : Place) (b : Bool) (u : Unit {0}) → when_formed p b ≡ Ok u → b ≡ true
+is-formed p true u e = refl
+is-formed p false u e = cc
+
+of-version : (found : Option Data) (n : ℕ) → version_in found ≡ Ok n → is_supported n ≡ true
+unfolding version_in
+of-version found n e =
+    let read : Both (formed place.Version (option_and_then whole found)) _ n = both (formed place.Version (option_and_then whole found)) _ n e in
+    let supported : Both (when_formed place.Version (is_supported read.first)) _ n = both (when_formed place.Version (is_supported read.first)) _ n read.then in
+    let same : read.first ≡ n = cc in
+    ap is_supported (sym same) ∙ is-formed place.Version (is_supported read.first) supported.first supported.was
+
 -- so a script that was read is one that the host can run, where its texts can be counted
 small-script : (d : Data) (s : Script) → ScriptParts d s → length s.texts < 2 ^ 32 → IsSmall s
 small-script d s parts texts =
     let threads : AreThreads s.threads = are-threads (get (codes "threads") d) s.threads parts.threads in
     record {
+      version = of-version (get (codes "version") d) s.version parts.version;
       few = parts.few;
       texts = texts;
       actors = record {

@@ -1,6 +1,7 @@
 //! The script that a JSON value is.
 ghost use Rattle.std.specs.Prelude.{◌≡◌, IfOk, option_map};
 ghost use Rattle.serde_json.specs.View.{view};
+ghost use Rattle.napi_types.specs.plain.Numbers.{is_supported};
 ghost use Rattle.napi_types.specs.plain.Texts.{fixed_texts};
 ghost use Rattle.napi_types.specs.scripts.Script.{is_root, version_in, workers_in, addons_in, threads_in, script, members_named};
 ghost use Rattle.napi_types.specs.scripts.ScriptReading.{read_with};
@@ -12,7 +13,9 @@ use crate::json::{ReadingStop, has_members, list_at};
 use crate::schedule::schedule_in;
 use crate::texts::TextTable;
 use crate::threads::each_thread;
-use napi_types::{LimitName, NAPI_VERSION, NoMemory, OpLists, Place, Plans, Script, Wrong};
+use napi_types::{
+    HIGHEST_VERSION, LOWEST_VERSION, LimitName, NoMemory, OpLists, Place, Plans, Script, Wrong,
+};
 use serde_json::Value;
 use std::alloc::Global;
 
@@ -43,13 +46,20 @@ fn is_root(value: &Value) -> bool
     has_members(value, count)
 }
 
-/// The version of Node-API.
+/// Whether a script may ask for a version.
+fn is_supported(version: u64) -> bool
+    ensures { result ≡ is_supported version }
+{
+    u64::from(LOWEST_VERSION) <= version && version <= u64::from(HIGHEST_VERSION)
+}
+
+/// The version of Node-API, 9 or 10.
 #[tactic(auto, unfolding(napi_types::specs::scripts::Script::version_in))]
-fn version_in(found: Option<&Value>) -> Result<(), ReadingStop>
+fn version_in(found: Option<&Value>) -> Result<u32, ReadingStop>
     ensures { Reads result (version_in (option_map (λ v. view v.now) found.entry)) }
 {
     match found.and_then(whole) {
-        Some(version) if version == u64::from(NAPI_VERSION) => Ok(()),
+        Some(version) if is_supported(version) => Ok(version as u32),
         _ => Err(ReadingStop::Wrong(Wrong::Shape(Place::Version))),
     }
 }
@@ -109,14 +119,14 @@ pub(crate) fn script(alloc: Global, value: &Value) -> Result<Script, ReadingStop
     if !is_root(value) {
         return Err(ReadingStop::Wrong(Wrong::Shape(Place::Root)));
     }
-    version_in(value.get("version"))?;
+    let version = version_in(value.get("version"))?;
     let workers = workers_in(value.get("workers"))?;
     let (addons, table) = addons_in(alloc, value.get("addons"))?;
     let threads = threads_in(alloc, value.get("threads"))?;
     let count = threads.items().len();
     let schedule = schedule_in(alloc, count, workers as usize, value.get("schedule"))?;
     Ok(Script {
-        version: NAPI_VERSION,
+        version,
         workers,
         addons,
         threads,

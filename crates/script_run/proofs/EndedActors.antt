@@ -117,7 +117,7 @@ module _ (J : Type 0) where
       ∙ ap (λ l. first ++ l) (sym (map-range_with_len_more fresh_worker 0 number number e))
 
 -- AT THE END
-module _ {J : Type 0} (plans : List Plan) (texts threads workers : ℕ) (hub : HubSeen) where
+module _ {J : Type 0} (version : ℕ) (plans : List Plan) (texts threads workers : ℕ) (hub : HubSeen) where
   abbrev Stands : ActorRun J → Type 0
   Stands a = IsActorOf (hub_numbers threads workers) hub a
 
@@ -127,9 +127,9 @@ module _ {J : Type 0} (plans : List Plan) (texts threads workers : ℕ) (hub : H
   -- a thread that has ended
   thread-made : (t : ℕ) (operations : List Op) (new : ActorRun J) → IsSameActor (run.OfThread (new_thread t operations)) new
       → IsActorOf (hub_numbers threads workers) hub new → is_over new ≡ true
-      → MadeItsScript (setting_with plans texts threads workers) t operations hub.history
+      → MadeItsScript (setting_with version plans texts threads workers) t operations hub.history
   thread-made t operations (run.OfThread u) same stands over =
-      let M : ℕ → List Op → Type 0 = λ k os. MadeItsScript (setting_with plans texts threads workers) k os hub.history in
+      let M : ℕ → List Op → Type 0 = λ k os. MadeItsScript (setting_with version plans texts threads workers) k os hub.history in
       let here : M u.number u.operations = record { keeps = stands.stands.keeps; ended = stands.stands.left_is ∙ none u over } in
       subst (M t) same.operations (subst (λ k. M k u.operations) same.number here)
     where
@@ -140,17 +140,17 @@ module _ {J : Type 0} (plans : List Plan) (texts threads workers : ℕ) (hub : H
   threads-made : (t : ℕ) (scripts : List (List Op)) (others new : List (ActorRun J)) → AllZip IsSameActor (thread_runs t scripts ++ others) new
       → All Stands new → All IsOver new
       → (i : ℕ) (operations : List Op) → slice_get scripts i ≡ Some operations
-      → MadeItsScript (setting_with plans texts threads workers) (t + i) operations hub.history
+      → MadeItsScript (setting_with version plans texts threads workers) (t + i) operations hub.history
   threads-made t [] others new same stands over i operations at = absurd (cc)
   threads-made t (first ∷ scripts) others [] same stands over i operations at = absurd same
   threads-made t (first ∷ scripts) others (x ∷ new) same stands over zero operations at =
       let e : first ≡ operations = cc in
       let z : t ≡ t + zero = omega arith in
-      let M : ℕ → List Op → Type 0 = λ k os. MadeItsScript (setting_with plans texts threads workers) k os hub.history in
+      let M : ℕ → List Op → Type 0 = λ k os. MadeItsScript (setting_with version plans texts threads workers) k os hub.history in
       subst (λ k. M k operations) z (subst (M t) e (thread-made t first x same.0 (All-head Stands x new stands) (All-head IsOver x new over)))
   threads-made t (first ∷ scripts) others (x ∷ new) same stands over (suc i) operations at =
       let z : t + 1 + i ≡ t + suc i = omega arith in
-      let M : ℕ → Type 0 = λ k. MadeItsScript (setting_with plans texts threads workers) k operations hub.history in
+      let M : ℕ → Type 0 = λ k. MadeItsScript (setting_with version plans texts threads workers) k operations hub.history in
       subst M z (threads-made (t + 1) scripts others new same.1 (All-tail Stands x new stands) (All-tail IsOver x new over) i operations at)
 
   -- a worker that has ended
@@ -192,7 +192,7 @@ module _ {J : Type 0} (plans : List Plan) (texts threads workers : ℕ) (hub : H
       (hold-none new led (All-tail Stands x new stands) (All-tail IsOver x new over))
 
 -- what all of them did, by the contract of the turns
-module _ {J : Type 0} (plans : List Plan) (texts : ℕ) (scripts : List (List Op)) (workers : ℕ) (n : Numbers) (named : n ≡ hub_numbers (length scripts) workers)
+module _ {J : Type 0} (version : ℕ) (plans : List Plan) (texts : ℕ) (scripts : List (List Op)) (workers : ℕ) (n : Numbers) (named : n ≡ hub_numbers (length scripts) workers)
     (hub : HubSeen) (old new : List (ActorRun J)) (made : old ≡ thread_runs 0 scripts ++ worker_runs workers) (same : AllZip IsSameActor old new)
     (stands : All (IsActorOf n hub) new) (over : All (λ a. is_over a ≡ true) new) where
   all-stand : All (IsActorOf (hub_numbers (length scripts) workers) hub) new
@@ -202,14 +202,14 @@ module _ {J : Type 0} (plans : List Plan) (texts : ℕ) (scripts : List (List Op
   all-same = subst (λ l. AllZip IsSameActor l new) made same
 
   pub threads-did : (left : List Entry) → left ≡ hub.history → (t : ℕ) (operations : List Op) → slice_get scripts t ≡ Some operations
-      → MadeItsScript (setting_with plans texts (length scripts) workers) t operations left
+      → MadeItsScript (setting_with version plans texts (length scripts) workers) t operations left
   threads-did left is t operations at =
       let z : 0 + t ≡ t = omega arith in
-      let M : ℕ → List Entry → Type 0 = λ k xs. MadeItsScript (setting_with plans texts (length scripts) workers) k operations xs in
-      subst (M t) (sym is) (subst (λ k. M k hub.history) z (threads-made plans texts (length scripts) workers hub 0 scripts (worker_runs workers) new all-same all-stand over t operations at))
+      let M : ℕ → List Entry → Type 0 = λ k xs. MadeItsScript (setting_with version plans texts (length scripts) workers) k operations xs in
+      subst (M t) (sym is) (subst (λ k. M k hub.history) z (threads-made version plans texts (length scripts) workers hub 0 scripts (worker_runs workers) new all-same all-stand over t operations at))
 
   pub workers-did : (left : List Entry) → left ≡ hub.history → (w : ℕ) → w < workers → worker_along w (Some Free) left ≡ Some Over
-  workers-did left is w below = ap (λ xs. worker_along w (Some Free) xs) is ∙ workers-made plans texts (length scripts) workers hub 0 scripts workers new all-same all-stand over w below
+  workers-did left is w below = ap (λ xs. worker_along w (Some Free) xs) is ∙ workers-made version plans texts (length scripts) workers hub 0 scripts workers new all-same all-stand over w below
 
   pub all-free : IsLedHub n hub → All HoldsNoWork new
-  all-free led = hold-none plans texts (length scripts) workers hub new (subst (λ m. IsLedHub m hub) named led) all-stand over
+  all-free led = hold-none version plans texts (length scripts) workers hub new (subst (λ m. IsLedHub m hub) named led) all-stand over

@@ -116,11 +116,11 @@ loaded-end given done rest first plans before registers l none =
 
 -- THE WHOLE RUN
 -- the registers of the other addons stay as they are
-pub others-stay : (count texts limit all : ℕ) (core : Core) (start : Run) (first loaded now : Registers)
-    → core ≡ opened_core (record { addons = count; texts = texts }) limit → start ≡ opened_run core → count ≡ all
+pub others-stay : (version count texts limit all : ℕ) (core : Core) (start : Run) (first loaded now : Registers)
+    → core ≡ opened_core (record { version = version; addons = count; texts = texts }) limit → start ≡ opened_run core → count ≡ all
     → drop start.core.env.addons now ≡ drop start.core.env.addons loaded → drop all loaded ≡ drop all first
     → drop all now ≡ drop all first
-others-stay count texts limit all core start first loaded now opens starts counted later earlier =
+others-stay version count texts limit all core start first loaded now opens starts counted later earlier =
     let same : start.core.env.addons ≡ all = ap (λ (r : Run). r.core.env.addons) starts ∙ ap (λ (x : Core). x.env.addons) opens ∙ counted in
     let P : ℕ → Type 0 = λ k. drop k now ≡ drop k loaded in
     subst P same later ∙ earlier
@@ -131,19 +131,19 @@ record BeginsWhole (s : Setting) (n : Numbers) (loaded : List Plan) (start : Run
   has : HasNumbers s n
   followed : IsFollowed s start [] all all.seen
 
-module _ (given : List AddonPlan) (handed loaded : List Plan) (texts count threads workers : ℕ) (n : Numbers) (core : Core) (start : Run) (all : AddonStates)
-    (enough : length given ≤ length handed) (counted : count ≡ length given) (opens : core ≡ opened_core (record { addons = count; texts = texts }) most_entries)
+module _ (given : List AddonPlan) (handed loaded : List Plan) (version texts count threads workers : ℕ) (n : Numbers) (core : Core) (start : Run) (all : AddonStates)
+    (enough : length given ≤ length handed) (counted : count ≡ length given) (opens : core ≡ opened_core (record { version = version; addons = count; texts = texts }) most_entries)
     (starts : start ≡ opened_run core) (named : n ≡ hub_numbers threads workers) (plans : loaded ≡ told_plans given handed ++ drop (length given) handed)
     (blank : (addon : ℕ) → addon < length given → registers_of all.registers addon ≡ blank_registers) where
   abbrev begun : Setting
-  begun = setting_with (told_plans given handed) texts threads workers
+  begun = setting_with version (told_plans given handed) texts threads workers
 
   begins : BeginsWhole begun n loaded start all
   begins =
       let told : List Plan = told_plans given handed in
       let as_many : length told ≡ length given = length-told given handed enough in
       let opened : core ≡ opened_core (opens_with begun) most_entries =
-      opens ∙ ap (λ k. opened_core (record { addons = k; texts = texts }) most_entries) (counted ∙ sym as_many) in
+      opens ∙ ap (λ k. opened_core (record { version = version; addons = k; texts = texts }) most_entries) (counted ∙ sym as_many) in
       let cleared : (addon : ℕ) → addon < length told → registers_of all.registers addon ≡ blank_registers = λ addon below. blank addon (omega (arith, as_many, below)) in
       record {
         of = record {

@@ -24,13 +24,13 @@ use Rattle.script_run.specs.ScriptActors.{MadeItsScript}
 use Rattle.script_run.proofs.Loading.{length-told, length-told-le}
 
 -- the lists of a run with few addons, threads and workers are within their limits
-lists-within : (given : List AddonPlan) (handed : List Plan) (texts threads workers : ℕ) (journal : List Local) (history : List Entry) (all : AddonStates)
+lists-within : (version : ℕ) (given : List AddonPlan) (handed : List Plan) (texts threads workers : ℕ) (journal : List Local) (history : List Entry) (all : AddonStates)
     (firsts : List (List DueInfo)) → length given ≤ 8 → threads ≤ 16 → workers ≤ 8
-    → IsEnded (setting_with (told_plans given handed) texts threads workers) journal history all firsts
+    → IsEnded (setting_with version (told_plans given handed) texts threads workers) journal history all firsts
     → (length journal ≤ most_entries) × (length history ≤ most_entries)
-lists-within given handed texts threads workers journal history all firsts few some none e =
+lists-within version given handed texts threads workers journal history all firsts few some none e =
     let plans : List Plan = told_plans given handed in
-    let s : Setting = setting_with plans texts threads workers in
+    let s : Setting = setting_with version plans texts threads workers in
     let fewer : length plans ≤ 8 = omega (arith, length-told-le given handed) in
     let opens : 2 + 2 * length plans ≤ most_entries = omega arith in
     let owes : 4 + threads + workers ≤ most_entries = omega (arith, some, none) in
@@ -46,22 +46,22 @@ if-some (Some x) P holds = holds x refl
 -- a run of the script's addons, as the top call tells it
 pub ran-of : (script : Script) (texts : ℕ) (handed after : Handed) (left : Record) → IsSmall script
     → texts ≡ length script.texts → length script.addons ≤ length handed.plans
-    → IsEnded (setting_with (told_plans script.addons handed.plans) texts (length script.threads) script.workers) left.journal left.history (record { registers = after.registers; seen = after.seen }) handed.seen
+    → IsEnded (setting_with script.version (told_plans script.addons handed.plans) texts (length script.threads) script.workers) left.journal left.history (record { registers = after.registers; seen = after.seen }) handed.seen
     → after.plans ≡ told_plans script.addons handed.plans ++ drop (length script.addons) handed.plans
     → drop (length script.addons) after.registers ≡ drop (length script.addons) handed.registers
     → ((t : ℕ) (operations : List Op) → slice_get script.threads t ≡ Some operations
-    → MadeItsScript (setting_with (told_plans script.addons handed.plans) texts (length script.threads) script.workers) t operations left.history)
+    → MadeItsScript (setting_with script.version (told_plans script.addons handed.plans) texts (length script.threads) script.workers) t operations left.history)
     → ((w : ℕ) → w < script.workers → worker_along w (Some Free) left.history ≡ Some Over)
     → ((words : List Actor) → script.schedule ≡ Some words
-    → (rounds : ℕ) × AroseByTurns (setting_with (told_plans script.addons handed.plans) texts (length script.threads) script.workers) script.threads
+    → (rounds : ℕ) × AroseByTurns (setting_with script.version (told_plans script.addons handed.plans) texts (length script.threads) script.workers) script.threads
     (turns_of words ++ rounds_of (hub_numbers (length script.threads) script.workers) rounds) left.journal left.history)
     → HasRun script handed left after
 ran-of script texts handed after left small counted enough ended loaded others threads workers arose =
     let states : AddonStates = record { registers = after.registers; seen = after.seen } in
-    let E : ℕ → Type 0 = λ n. IsEnded (setting_with (told_plans script.addons handed.plans) n (length script.threads) script.workers) left.journal left.history states handed.seen in
+    let E : ℕ → Type 0 = λ n. IsEnded (setting_with script.version (told_plans script.addons handed.plans) n (length script.threads) script.workers) left.journal left.history states handed.seen in
     let e : IsEnded (setting_of script handed.plans) left.journal left.history states handed.seen = subst E counted ended in
     let within : (length left.journal ≤ most_entries) × (length left.history ≤ most_entries) =
-    lists-within script.addons handed.plans (length script.texts) (length script.threads) script.workers left.journal left.history states handed.seen
+    lists-within script.version script.addons handed.plans (length script.texts) (length script.threads) script.workers left.journal left.history states handed.seen
     small.few small.actors.threads_few small.actors.workers_few e in
     record {
       enough = enough;
@@ -80,7 +80,7 @@ ran-of script texts handed after left small counted enough ended loaded others t
         once = e.promises.once;
         items = e.promises.items;
         threads = λ t operations at.
-            subst (λ n. MadeItsScript (setting_with (told_plans script.addons handed.plans) n (length script.threads) script.workers) t operations left.history)
+            subst (λ n. MadeItsScript (setting_with script.version (told_plans script.addons handed.plans) n (length script.threads) script.workers) t operations left.history)
             counted (threads t operations at);
         workers = workers;
         completed = e.promises.completed;
@@ -90,7 +90,7 @@ ran-of script texts handed after left small counted enough ended loaded others t
       others = others;
       scheduled = if-some script.schedule (FollowsSchedule script handed.plans left) (λ words is. (
         (arose words is).0,
-        subst (λ n. AroseByTurns (setting_with (told_plans script.addons handed.plans) n (length script.threads) script.workers) script.threads
+        subst (λ n. AroseByTurns (setting_with script.version (told_plans script.addons handed.plans) n (length script.threads) script.workers) script.threads
             (turns_of words ++ rounds_of (hub_numbers (length script.threads) script.workers) (arose words is).0) left.journal left.history)
             counted (arose words is).1,
       ));

@@ -1,5 +1,5 @@
 -- The load script is one that the host can run.
-use Rattle.std.proofs.Common.{ℕ, zero, suc, ◌+◌, List, [], ◌∷◌, length-append, arith}
+use Rattle.std.proofs.Common.{ℕ, zero, suc, ◌+◌, List, [], ◌∷◌, length-append, refl, arith}
 use Rattle.std.proofs.lemmas.List.FromFn.{length-map-range_with_len}
 use Rattle.std.proofs.lemmas.List.Elements.{All-append, All-map}
 use Rattle.std.specs.List.{All, range_with_len}
@@ -31,6 +31,7 @@ is-thread n t =
 
 pub small-load : (n : ℕ) → IsSmall (load_script n)
 small-load n = record {
+  version = refl;
   few = omega arith;
   texts = omega arith;
   actors = record {

@@ -8,7 +8,7 @@ use Rattle.napi_types.specs.declared.lists.AddonPlan.{AddonPlan}
 use Rattle.napi_types.specs.declared.op.Op.{Op}
 use Rattle.napi_types.specs.declared.op.Op.TheVariants as op
 use Rattle.napi_types.specs.declared.script.Script.{Script}
-use Rattle.napi_types.specs.plain.Numbers.{napi_version}
+use Rattle.napi_types.specs.plain.Numbers.{lowest_version}
 use Rattle.napi_types.specs.plain.Texts.{fixed_texts}
 
 -- THE ADDON
@@ -51,7 +51,7 @@ load_threads n many = map (thread_operations n) (range_with_len 0 many)
 -- that of the number n: 4 workers, 16 threads and no schedule
 abbrev pub load_script : ℕ → Script
 load_script n = record {
-  version = napi_version;
+  version = lowest_version;
   workers = 4;
   addons = load_plan ∷ [];
   threads = load_threads n 16;

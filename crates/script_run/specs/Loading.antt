@@ -20,9 +20,10 @@ run_limits = record { journal = most_entries; history = most_entries }
 abbrev pub hub_numbers : ℕ → ℕ → Numbers
 hub_numbers threads workers = record { threads = threads; workers = workers; limits = run_limits }
 
--- a run of a script whose addons tell these plans, with so many texts, threads and workers, under the limits of every run
-abbrev pub setting_with : List Plan → ℕ → ℕ → ℕ → Setting
-setting_with plans texts threads workers = record {
+-- a run of a script that asks for this version, whose addons tell these plans, with so many texts, threads and workers, under the limits of every run
+abbrev pub setting_with : ℕ → List Plan → ℕ → ℕ → ℕ → Setting
+setting_with version plans texts threads workers = record {
+  version = version;
   plans = plans;
   texts = texts;
   threads = threads;

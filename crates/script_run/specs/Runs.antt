@@ -1,5 +1,5 @@
 -- The run of a script with the addons that were handed in, as its two lists tell it.
-use Rattle.std.specs.Prelude.{◌≡◌, ◌≤◌, ◌<◌, ◌^◌, ℕ, List, ◌++◌, length, map, drop, slice_get, Some, None, IfSome}
+use Rattle.std.specs.Prelude.{◌≡◌, ◌≤◌, ◌<◌, ◌^◌, ℕ, List, ◌++◌, length, map, drop, slice_get, true, Some, None, IfSome}
 use Rattle.napi_types.specs.declared.call.Ask.{Ask}
 use Rattle.napi_types.specs.declared.duties.DueInfo.{DueInfo}
 use Rattle.napi_types.specs.declared.entry.Actor.{Actor}
@@ -7,6 +7,7 @@ use Rattle.napi_types.specs.declared.entry.Duty.TheVariants as duty
 use Rattle.napi_types.specs.declared.lists.Record.{Record}
 use Rattle.napi_types.specs.declared.op.Op.{Op}
 use Rattle.napi_types.specs.declared.script.Script.{Script}
+use Rattle.napi_types.specs.plain.Numbers.{is_supported}
 use Rattle.napi_types.specs.plain.Room.{most_entries}
 use Rattle.napi_types.specs.plain.Weave.{weave, RisesBetween}
 use Rattle.napi_types.specs.scripts.Plans.{Plan, plan_of, registers_of}
@@ -29,7 +30,7 @@ use Rattle.script_run.specs.ScriptActors.{AreActors, MadeItsScript}
 
 -- a run of the script, with these addons handed in
 abbrev pub setting_of : Script → List Plan → Setting
-setting_of script handed = setting_with (told_plans script.addons handed) (length script.texts) (length script.threads) script.workers
+setting_of script handed = setting_with script.version (told_plans script.addons handed) (length script.texts) (length script.threads) script.workers
 
 -- the two lists are the journal and the history of a run of the script that ends in `gone`, the journal in the order of its places; each collection of the
 -- run keeps exactly what its roots reach; and the registers of each addon that tells its plan are the run's
@@ -95,9 +96,10 @@ pub record HasRun (script : Script) (handed : Handed) (left : Record) (after : H
   pub journal : length left.journal ≤ most_entries
   pub history : length left.history ≤ most_entries
 
--- a script that the host can run: it has eight addons at most, its texts can be counted in 32 bits, and it has threads, workers and words of a schedule as a
+-- a script that the host can run: it asks for a version that is supported, it has eight addons at most, its texts can be counted in 32 bits, and it has threads, workers and words of a schedule as a
 -- script may
 pub record IsSmall (script : Script) : Type 0 where
+  pub version : is_supported script.version ≡ true
   pub few : length script.addons ≤ 8
   pub texts : length script.texts < 2 ^ 32
   pub actors : AreActors script.threads script.workers script.schedule

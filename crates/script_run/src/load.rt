@@ -6,8 +6,8 @@ ghost use Rattle.script_run.specs.Runs.{IsSmall};
 ghost use Rattle.script_run.specs.Load.{calls_from, first_entry, load_plan, load_script, load_threads, makes_work, makes_wrap, thread_operations};
 
 use napi_types::{
-    AddonPlan, JobSpec, Listed, Mode, NAPI_VERSION, NoMemory, Op, OpList, OpLists, Plans, Release,
-    Script, Text, Texts,
+    AddonPlan, JobSpec, LOWEST_VERSION, Listed, Mode, NoMemory, Op, OpList, OpLists, Plans,
+    Release, Script, Text, Texts,
 };
 use std::alloc::Global;
 
@@ -30,7 +30,7 @@ pub fn load_script(alloc: Global, number: u32) -> Result<Script, NoMemory>
     let threads = threads(alloc, number)?;
     let texts = fixed(alloc)?;
     Ok(Script {
-        version: NAPI_VERSION,
+        version: LOWEST_VERSION,
         workers: 4,
         addons,
         threads,

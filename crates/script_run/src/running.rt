@@ -1,6 +1,7 @@
 //! A run of a script: its addons are given their plans, and the environment, the threads and the workers run to their end.
-ghost use Rattle.std.specs.Prelude.{◌≡◌, ℕ, ◌<◌, ◌≤◌, ◌++◌, length, map, drop, [], IfOk, OnOk, OnErr, unwrap_or};
+ghost use Rattle.std.specs.Prelude.{◌≡◌, ℕ, ◌<◌, ◌≤◌, ◌++◌, length, map, drop, [], true, IfOk, OnOk, OnErr, unwrap_or};
 ghost use Rattle.std.specs.List.{All};
+ghost use Rattle.napi_types.specs.plain.Numbers.{is_supported};
 ghost use Rattle.napi_types.specs.plain.Room.{most_entries};
 ghost use Rattle.napi_types.specs.scripts.Plans.{registers_of};
 ghost use Rattle.napi_types.specs.scripts.Registers.{blank_registers};
@@ -15,9 +16,7 @@ use crate::actors::{actor_runs, retire_all};
 use addon_trait::{Addon, load_at};
 use env_core::EnvCore;
 use env_loop::{ActorRun, EnvRun};
-use napi_types::{
-    Actor, Actors, Gate, Limits, NAPI_VERSION, NoMemory, OpLists, Plans, Record, Script, Texts,
-};
+use napi_types::{Actor, Actors, Gate, Limits, NoMemory, OpLists, Plans, Record, Script, Texts};
 use runner::Crew;
 use script_addon::ScriptJob;
 use shared_hub::{HubState, Naming};
@@ -66,26 +65,28 @@ struct Opening<N: Naming> {
     actors: Vec<ActorRun<ScriptJob>>,
 }
 
-/// Opens a run of so many addons and texts, with these threads and so many workers. Where there is no memory, what was made is retired.
+/// Opens a run at a version, of so many addons and texts, with these threads and so many workers. Where there is no memory, what was made is retired.
 fn open<N: Naming>(
     alloc: Global,
+    version: u32,
     addons: u32,
     texts: u32,
     threads: OpLists,
     workers: u32,
 ) -> Result<Opening<N>, NoMemory>
     requires named { N.numbers ≡ hub_numbers (length threads) workers }
+    requires version { is_supported version ≡ true }
     requires addons { addons ≤ 8 }
     requires threads { length threads ≤ 16 }
     requires scripts { All IsThreadScript threads }
     requires workers { workers ≤ 8 }
-    ensures env { IfOk result (λ opening. opening.env ≡ opened_run (opened_core (record { addons = addons; texts = texts }) most_entries)) }
+    ensures env { IfOk result (λ opening. opening.env ≡ opened_run (opened_core (record { version = version; addons = addons; texts = texts }) most_entries)) }
     ensures hub { IfOk result (λ opening. opening.hub ≡ hub_seen N.numbers []) }
     ensures actors { IfOk result (λ opening. opening.actors.items ≡ thread_runs 0 threads ++ worker_runs workers) }
 {
     let count = threads.items().len() as u32;
     let actors = actor_runs(alloc, threads, workers)?;
-    let Ok(core) = EnvCore::new(alloc, NAPI_VERSION, addons, texts, LIMITS) else {
+    let Ok(core) = EnvCore::new(alloc, version, addons, texts, LIMITS) else {
         retire_all(actors);
         return Err(NoMemory);
     };
@@ -119,7 +120,7 @@ pub fn in_turns<N: Naming>(
     ensures addons { OnErr result (addons.new.items ≡ addons.old.items) }
 {
     let Script {
-        version: _,
+        version,
         workers,
         addons: plans,
         threads,
@@ -128,7 +129,7 @@ pub fn in_turns<N: Naming>(
     } = script;
     let plans_len = plans.items().len() as u32;
     let texts_len = texts.items().len() as u32;
-    let opening = open::<N>(alloc, plans_len, texts_len, threads, workers)?;
+    let opening = open::<N>(alloc, version, plans_len, texts_len, threads, workers)?;
     let Opening {
         mut env,
         mut hub,
@@ -166,7 +167,7 @@ pub fn on_threads<N: Naming + Send + Sync, R: Threads + Wait + Sync, G: Gate>(
         return in_turns::<N>(alloc, script, addons, left);
     }
     let Script {
-        version: _,
+        version,
         workers,
         addons: plans,
         threads,
@@ -175,7 +176,7 @@ pub fn on_threads<N: Naming + Send + Sync, R: Threads + Wait + Sync, G: Gate>(
     } = script;
     let plans_len = plans.items().len() as u32;
     let texts_len = texts.items().len() as u32;
-    let opening = open::<N>(alloc, plans_len, texts_len, threads, workers)?;
+    let opening = open::<N>(alloc, version, plans_len, texts_len, threads, workers)?;
     let Opening { env, hub, actors } = opening;
     let Ok(crew) = Crew::new(alloc, hub, actors) else {
         env.retire();

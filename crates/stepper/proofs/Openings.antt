@@ -88,15 +88,15 @@ ended-at-last {J = J} n plans start last m empty kept same gone led =
     subst P (sym same) (λ s firsts numbers of followed.
     gone-ended s last.env.run last.env.hub.history last.env.addons firsts (replays-in n s last.env.hub there numbers) (goes s firsts numbers of followed) gone)
 
--- the opening as it stands first in the journal
-abbrev opening_entry : Local
-opening_entry = record { at = 0; entry = (opening_change (new_environment (record { addons = 0; texts = 0 }))).entry }
+-- the opening at a version as it stands first in the journal
+abbrev opening_entry : ℕ → Local
+opening_entry version = record { at = 0; entry = (opening_change (new_environment (record { version = version; addons = 0; texts = 0 }))).entry }
 
 -- the lists of a run that opened
 opened-lists : {J : Type 0} (n : Numbers) (m : Moment J) → IsOpenedRun m.env.run → m.env.hub ≡ hub_seen n []
-    → lists_at m ≡ record { journal = opening_entry ∷ []; history = []; stopped = false }
+    → lists_at m ≡ record { journal = opening_entry m.env.run.core.env.version ∷ []; history = []; stopped = false }
 opened-lists n m opened empty =
-    both-same m.env.run.core.journal (opening_entry ∷ []) m.env.hub.history [] (is_some m.env.run.ending) false
+    both-same m.env.run.core.journal (opening_entry m.env.run.core.env.version ∷ []) m.env.hub.history [] (is_some m.env.run.ending) false
     (ap (λ (c : Core). c.journal) opened.core) (ap (λ (s : HubSeen). s.history) empty) (ap (λ (r : Run). is_some r.ending) opened.opened)
 
 -- and the two lists arose by the turns that led from there
@@ -111,7 +111,7 @@ arose-at-last {J = J} n plans schedule rounds start last m opened empty steps sa
       steps.lists s scripts firsts numbers of
       (subst (λ xs. IsFollowed s start.env.run xs start.env.addons firsts) (sym (ap (λ (u : HubSeen). u.history) empty)) followed) has in
       record {
-        opening = opening_entry;
+        opening = opening_entry start.env.run.core.env.version;
         stopped = is_some m.env.run.ending;
         led = subst (λ (l : BothLists). TurnsLead s scripts turns l (lists_at m)) (opened-lists n start opened empty)
             (subst (λ (k : Moment J). TurnsLead s scripts turns (lists_at start) (lists_at k)) (sym same) led);

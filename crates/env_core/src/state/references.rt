@@ -1,8 +1,9 @@
 //! Calls on references.
-ghost use Rattle.std.specs.Prelude.{◌≡◌, ◌≢◌, ◌+◌, ◌<◌, ◌^◌, [], length, None, IfOk, IfErr, OnErr};
+ghost use Rattle.std.specs.Prelude.{◌≡◌, ◌≢◌, ◌+◌, ◌||◌, ◌<◌, ◌^◌, [], length, None, IfOk, IfErr, OnErr};
 ghost use Rattle.napi_types.specs.declared.call.Call.TheVariants as call_of;
 ghost use Rattle.napi_types.specs.plain.CallFacts.{group_of};
 ghost use Rattle.napi_types.specs.plain.Lists.{unless};
+ghost use Rattle.napi_types.specs.plain.Numbers.{is_ten_or_later};
 ghost use Rattle.napi_types.specs.plain.Replies.{plain};
 ghost use Rattle.napi_types.specs.parts.Bodies.{is_referable as is_referable_body};
 ghost use Rattle.napi_types.specs.parts.Heap.{handle_body};
@@ -60,14 +61,15 @@ impl State {
         self.holds(handle) && self.is_referable(handle)
     }
 
-    /// Whether the value of a handle is of a kind to which references are made.
+    /// Whether the value of a handle is of a kind to which references are made: from version 10 on every kind is.
     fn is_referable(&self, handle: HandleId) -> bool
-        ensures { result ≡ is_referable_body (handle_body self.now.heap handle.0) }
+        ensures { result ≡ (is_ten_or_later self.now.version || is_referable_body (handle_body self.now.heap handle.0)) }
     {
-        matches!(
-            body_of(&self.store, &self.scopes, handle),
-            Body::Object { .. } | Body::Function { .. } | Body::External(_) | Body::Symbol(_)
-        )
+        self.is_ten_or_later()
+            || matches!(
+                body_of(&self.store, &self.scopes, handle),
+                Body::Object { .. } | Body::Function { .. } | Body::External(_) | Body::Symbol(_)
+            )
     }
 
     /// A reference ends.

@@ -228,7 +228,7 @@ fn functions(rt: &impl Abort, core: &mut EnvCore) {
 
 /// The other calls, and the second addon's frame.
 fn others(rt: &impl Abort, core: &mut EnvCore) {
-    tells(rt, core, Call::GetVersion, "number", 9);
+    tells(rt, core, Call::GetVersion, "number", 10);
     // The collection frees this external, and the object that was made in scope 2.
     tells(rt, core, Call::OpenHandleScope, "scope", 4);
     tells_tickets(

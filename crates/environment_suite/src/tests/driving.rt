@@ -108,7 +108,7 @@ pub fn callers(rt: &impl Abort, alloc: Global, entries: Entries) -> Vec<Box<dyn 
 pub fn opened(rt: &impl Abort, alloc: Global, journal: u32) -> EnvRun
     requires least { 4 ≤ journal }
     requires most { journal ≤ most_entries }
-    ensures { result ≡ opened_run (opened_core (record { addons = 1; texts = 0 }) journal) }
+    ensures { result ≡ opened_run (opened_core (record { version = 9; addons = 1; texts = 0 }) journal) }
 {
     let limits = Limits {
         journal,

@@ -209,8 +209,8 @@ fn a_frame_of_the_hub_is_cut_in_the_turn_of_a_local_call_without_a_place(rt: Hos
                 OPENED,
                 BEGUN,
                 ("status", 0, 2),
-                ("number", 9, 4),
-                ("number", 9, 4),
+                ("number", 10, 4),
+                ("number", 10, 4),
                 ("status", 0, 9),
             ],
             &[
@@ -278,7 +278,7 @@ fn a_work_is_cancelled_where_there_are_no_workers(rt: HostRuntime) {
                 OPENED,
                 BEGUN,
                 ("status", 0, 2),
-                ("number", 9, 6),
+                ("number", 10, 6),
                 ("status", 0, 8),
             ],
             &[

@@ -9,8 +9,8 @@ use super::{Found, NONE, ample, ticket_of, told, word_of};
 use addon_trait::Phased;
 use env_core::{EnvCore, Stepped};
 use napi_types::{
-    Begun, Call, Cause, DueInfo, Duty, HandleId, Limits, NAPI_VERSION, Out, Phase, Reply, SeenList,
-    SharedCall, Status, TsfnId, Why,
+    Begun, Call, Cause, DueInfo, Duty, HandleId, LOWEST_VERSION, Limits, Out, Phase, Reply,
+    SeenList, SharedCall, Status, TsfnId, Why,
 };
 use std::alloc::Global;
 use std::process::Abort;
@@ -21,7 +21,7 @@ pub fn opened(rt: &impl Abort, alloc: Global) -> EnvCore {
         journal: 1024,
         history: 16,
     };
-    let mut core = ample(rt, EnvCore::new(alloc, NAPI_VERSION, 2, 3, limits));
+    let mut core = ample(rt, EnvCore::new(alloc, LOWEST_VERSION, 2, 3, limits));
     core.begin_init(0);
     core
 }

@@ -191,7 +191,7 @@ const CASES: &[Case] = &[
             (65_536, "get_undefined 0 handle"),
             (1, "end 0 cut:asks"),
             (1, "begin 0 finalize:0.2:#2"),
-            (1, "get_version 0 9"),
+            (1, "get_version 0 10"),
             (1, "end 0 -"),
             (1, "loop_end 0 idle"),
             (1, "drain 0 0"),

@@ -1,5 +1,5 @@
 -- No refusal is an acceptance.
-use Rattle.std.proofs.Common.{◌≡◌, ℕ, Bool, true, false, not, ◌&&◌, ◌||◌, ◌==◌, List, [], ◌∷◌, refl, Option, Some, None, is_some, is_none, IfSome}
+use Rattle.std.proofs.Common.{◌≡◌, ℕ, Bool, true, false, not, ◌&&◌, ◌||◌, cond, ◌==◌, List, [], ◌∷◌, refl, Option, Some, None, is_some, is_none, IfSome}
 use Rattle.std.specs.Option.{option_or}
 use Rattle.std.specs.List.{list_all}
 use Rattle.napi_types.specs.declared.body.Body.{Body}
@@ -14,8 +14,9 @@ use Rattle.napi_types.specs.declared.call.CallGroup.TheVariants.{OnValues, OnPro
 use Rattle.napi_types.specs.plain.CallFacts.{group_of}
 use Rattle.napi_types.specs.plain.Guards.{is_guarded, is_registering}
 use Rattle.napi_types.specs.plain.Lists.{when, unless}
+use Rattle.napi_types.specs.plain.Numbers.{is_ten_or_later}
 use Rattle.napi_types.specs.parts.Attachments.{Attachments}
-use Rattle.napi_types.specs.parts.Bodies.{is_function, is_string}
+use Rattle.napi_types.specs.parts.Bodies.{is_function, is_referable, is_string}
 use Rattle.napi_types.specs.parts.Frames.{Frame, caller_of}
 use Rattle.napi_types.specs.parts.FunctionCalls.{function_refusal}
 use Rattle.napi_types.specs.parts.Heap.{Heap, handle_body}
@@ -35,7 +36,7 @@ use Rattle.napi_types.specs.parts.WrapRefusals.{wrap_kinds, wrap_refusal}
 use Rattle.napi_types.specs.environment.Environment.{Environment}
 use Rattle.napi_types.specs.environment.Groups.{call_group}
 use Rattle.napi_types.specs.environment.HookCalls.{hook_refusal}
-use Rattle.napi_types.specs.environment.Moments.{is_tearing, guard_refusal, registering_refusal, moment_refusal}
+use Rattle.napi_types.specs.environment.Moments.{is_tearing, guard_status, guard_refusal, registering_refusal, moment_refusal}
 use Rattle.napi_types.specs.environment.ReferenceCalls.{referring_refusal}
 use Rattle.napi_types.specs.environment.Refusals.{group_refusal, timely_refusal, early_refusal, depth_refusal, refusal}
 use Rattle.napi_types.specs.environment.WrapCalls.{attachment_refusal}
@@ -172,7 +173,7 @@ by-reference m c =
     either (unknown_reference m c) (count_refusal m c) (by-unless (list_all (has_reference m) (references_of c)) status.InvalidArg refl) (by-count m c)
 
 by-referring : (e : Environment) (c : Call) → Refuses (referring_refusal e c)
-by-referring e (call.CreateReference h _) = by-unless _ status.InvalidArg refl
+by-referring e (call.CreateReference h _) = by-unless (is_ten_or_later e.version || is_referable (handle_body e.heap h.0)) status.InvalidArg refl
 by-referring e _ = tt
 
 by-group : (g : CallGroup) (e : Environment) (c : Call) → Refuses ((call_group g).refuses e c)
@@ -185,9 +186,14 @@ by-depth : (fs : List Frame) (c : Call) → Refuses (depth_refusal fs c)
 by-depth fs (call.CallFunction _ _ _) = by-when _ status.PendingException refl
 by-depth fs _ = tt
 
+by-guard : (pending ten : Bool) → is_acceptance (cond pending status.PendingException (cond ten status.CannotRunJs status.PendingException)) ≡ false
+by-guard true ten = refl
+by-guard false true = refl
+by-guard false false = refl
+
 by-moment : (e : Environment) (c : Call) → Refuses (moment_refusal e c)
 by-moment e c =
-    either (guard_refusal e c) (registering_refusal e c) (by-when (is_guarded c && (is_some e.pending || is_tearing e.phase)) status.PendingException refl)
+    either (guard_refusal e c) (registering_refusal e c) (by-when (is_guarded c && (is_some e.pending || is_tearing e.phase)) (guard_status e) (by-guard (is_some e.pending) (is_ten_or_later e.version)))
     (by-when (is_registering c && is_tearing e.phase) status.GenericFailure refl)
 
 refusals-refuse : (e : Environment) (c : Call) → Refuses (refusal e c)

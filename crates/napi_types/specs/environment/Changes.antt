@@ -15,7 +15,6 @@ use Rattle.napi_types.specs.declared.entry.Phase.{Phase}
 use Rattle.napi_types.specs.declared.entry.Phase.TheVariants as phase
 use Rattle.napi_types.specs.plain.Entries.{host_entry}
 use Rattle.napi_types.specs.plain.Lists.{has_number}
-use Rattle.napi_types.specs.plain.Numbers.{napi_version}
 use Rattle.napi_types.specs.parts.Book.{Book, all_due}
 use Rattle.napi_types.specs.parts.Frames.{frame_of, begin_told, ask_counted, is_asking, asks_made, most_asks}
 use Rattle.napi_types.specs.parts.HeapChanges.{with_frame}
@@ -27,9 +26,9 @@ pub record Change : Type 0 where
   pub entry : Entry
   pub after : Environment
 
--- `opened` tells the version
+-- `opened` tells the version that the script asks for
 abbrev pub opening_change : Environment → Change
-opening_change e = record { entry = host_entry host.Opened (out.Unsigned napi_version); after = record e { opened = true } }
+opening_change e = record { entry = host_entry host.Opened (out.Unsigned e.version); after = record e { opened = true } }
 
 -- the init frame of an addon begins at the addon's entry 0, with a scope of its own
 abbrev pub init_change : ℕ → Environment → Change

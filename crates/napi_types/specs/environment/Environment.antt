@@ -20,6 +20,8 @@ pub record FunctionRoot : Type 0 where
 
 -- the state of the environment (`napi_env`)
 pub record Environment : Type 0 where
+  -- the version that the script asks for
+  pub version : ℕ
   -- how many addons and how many texts the script has
   pub addons : ℕ
   pub texts : ℕ
@@ -47,14 +49,17 @@ pub record Environment : Type 0 where
   -- the status of the last call
   pub last : Status
 
--- what an environment is opened with: how many addons and how many texts the script has. A further thing that opens one is a field here
+-- what an environment is opened with: the version that the script asks for, and how many addons and how many texts it has. A further thing that opens one is a
+-- field here
 pub record OpenedWith : Type 0 where
+  pub version : ℕ
   pub addons : ℕ
   pub texts : ℕ
 
 -- the environment that is opened with that, before its opening
 abbrev pub new_environment : OpenedWith → Environment
 new_environment given = record {
+  version = given.version;
   addons = given.addons;
   texts = given.texts;
   opened = false;
@@ -75,7 +80,7 @@ new_environment given = record {
 
 -- what an environment was opened with
 abbrev pub opened_with : Environment → OpenedWith
-opened_with e = record { addons = e.addons; texts = e.texts }
+opened_with e = record { version = e.version; addons = e.addons; texts = e.texts }
 
 -- an environment with another heap
 abbrev pub with_heap : Environment → Heap → Environment

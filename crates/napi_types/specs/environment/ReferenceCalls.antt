@@ -1,12 +1,13 @@
 -- The calls on references: what refuses them, and what they answer and leave where nothing does.
 use Rattle.std.specs.Option.{option_or}
-use Rattle.std.specs.Prelude.{ℕ, ◌+◌, ◌-◌, Option, Some, None}
+use Rattle.std.specs.Prelude.{ℕ, ◌+◌, ◌-◌, ◌||◌, Option, Some, None}
 use Rattle.napi_types.specs.declared.call.Call.{Call}
 use Rattle.napi_types.specs.declared.call.Call.TheVariants as call
 use Rattle.napi_types.specs.declared.entry.Out.TheVariants as out
 use Rattle.napi_types.specs.declared.status.Status.{Status}
 use Rattle.napi_types.specs.declared.status.Status.TheVariants as status
 use Rattle.napi_types.specs.plain.Lists.{unless}
+use Rattle.napi_types.specs.plain.Numbers.{is_ten_or_later}
 use Rattle.napi_types.specs.plain.Replies.{Answer, accepts}
 use Rattle.napi_types.specs.parts.Bodies.{is_referable}
 use Rattle.napi_types.specs.parts.Heap.{handle_value, handle_body}
@@ -45,10 +46,10 @@ on_references e (call.ReferenceUnref r) n = Some (count_told r.0 (reference_coun
 on_references e (call.GetReferenceValue r) n = Some (value_told e (referred_value e.references r.0))
 on_references e _ n = None
 
--- a reference is made to an object, a function, an external or a symbol. The call that makes one names none, so whether this or `reference_refusal` is asked
--- first shows nowhere
+-- at version 9 a reference is made to an object, a function, an external or a symbol alone, from version 10 on to a value of any kind. The call that makes one
+-- names none, so whether this or `reference_refusal` is asked first shows nowhere
 abbrev pub referring_refusal : Environment → Call → Option Status
-referring_refusal e (call.CreateReference h _) = unless (is_referable (handle_body e.heap h.0)) status.InvalidArg
+referring_refusal e (call.CreateReference h _) = unless (is_ten_or_later e.version || is_referable (handle_body e.heap h.0)) status.InvalidArg
 referring_refusal e _ = None
 
 -- what the environment tells of these calls

@@ -1,13 +1,24 @@
--- The version of Node-API, and the numbers of statuses and value kinds. The manual gives all but 1000 and 1001, which are this project's own.
-use Rattle.std.specs.Prelude.{ℕ}
+-- The versions of Node-API, and the numbers of statuses and value kinds. The manual gives all but 1000 and 1001, which are this project's own.
+use Rattle.std.specs.Prelude.{ℕ, Bool, ◌&&◌, nat_le}
 use Rattle.napi_types.specs.declared.status.Status.{Status}
 use Rattle.napi_types.specs.declared.status.Status.TheVariants as status
 use Rattle.napi_types.specs.declared.status.Kind.{Kind}
 use Rattle.napi_types.specs.declared.status.Kind.TheVariants as kind
 
--- the version that is spoken: the manual's `NAPI_VERSION`
-abbrev pub napi_version : ℕ
-napi_version = 9
+-- the lowest version that a script may ask for (the manual's `NAPI_VERSION`), and the highest, which `get_version` tells whatever the script asked for
+abbrev pub lowest_version : ℕ
+lowest_version = 9
+
+abbrev pub highest_version : ℕ
+highest_version = 10
+
+-- whether a script may ask for a version
+abbrev pub is_supported : ℕ → Bool
+is_supported version = nat_le lowest_version version && nat_le version highest_version
+
+-- whether what version 10 changed holds at a version
+abbrev pub is_ten_or_later : ℕ → Bool
+is_ten_or_later version = nat_le 10 version
 
 -- a status's number: the manual's `napi_status`
 abbrev pub status_number : Status → ℕ

@@ -10,8 +10,10 @@ use Rattle.napi_types.specs.runs.Machine.{Machine, opening}
 use Rattle.napi_types.specs.runs.Plan.{asked_along, registers_along}
 use Rattle.napi_types.specs.runs.Run.{IsRunBy, final}
 
--- what a run is a run of: what each addon of the script tells of its plan, how many texts, threads and workers there are, and the limits
+-- what a run is a run of: the version that the script asks for, what each addon of it tells of its plan, how many texts, threads and workers there are, and the
+-- limits
 pub record Setting : Type 0 where
+  pub version : ℕ
   pub plans : List Plan
   pub texts : ℕ
   pub threads : ℕ
@@ -20,7 +22,7 @@ pub record Setting : Type 0 where
 
 -- what the environment of a run opens with
 abbrev pub opens_with : Setting → OpenedWith
-opens_with s = record { addons = length s.plans; texts = s.texts }
+opens_with s = record { version = s.version; addons = length s.plans; texts = s.texts }
 
 -- the machine at the start of a run
 abbrev pub opening_of : Setting → Machine

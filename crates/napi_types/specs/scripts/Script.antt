@@ -12,7 +12,7 @@ use Rattle.napi_types.specs.declared.script.Wrong.{Wrong}
 use Rattle.napi_types.specs.declared.script.Place.TheVariants as place
 use Rattle.napi_types.specs.declared.script.LimitName.TheVariants as limit
 use Rattle.napi_types.specs.declared.script.Wrong.TheVariants as wrong
-use Rattle.napi_types.specs.plain.Numbers.{napi_version}
+use Rattle.napi_types.specs.plain.Numbers.{is_supported}
 use Rattle.napi_types.specs.plain.Texts.{fixed_texts}
 use Rattle.napi_types.specs.scripts.ScriptAddons.{has_members, addon_at}
 use Rattle.napi_types.specs.scripts.ScriptArguments.{whole}
@@ -30,9 +30,12 @@ unfoldable pub is_root : Data → Bool
 is_root d = has_members (members_named (codes "version") d + members_named (codes "workers") d + members_named (codes "addons") d
     + members_named (codes "threads") d + members_named (codes "schedule") d) d
 
--- the version of Node-API
-unfoldable pub version_in : Option Data → Reading (Unit {0})
-version_in found = when_formed place.Version (unwrap_or (option_map (λ n. n == napi_version) (option_and_then whole found)) false)
+-- the version of Node-API, 9 or 10
+unfoldable pub version_in : Option Data → Reading ℕ
+version_in found = do
+  n ← formed place.Version (option_and_then whole found)
+  _ ← when_formed place.Version (is_supported n)
+  Ok n
 
 -- the number of workers, at most 8
 unfoldable pub workers_in : Option Data → Reading ℕ
@@ -57,12 +60,12 @@ threads_in found = do
 unfoldable pub script : Data → Reading Script
 script d = do
   _ ← when_formed place.Root (is_root d)
-  _ ← version_in (get (codes "version") d)
+  version ← version_in (get (codes "version") d)
   workers ← workers_in (get (codes "workers") d)
   addons ← addons_in (get (codes "addons") d)
   threads ← threads_in (get (codes "threads") d)
   schedule ← schedule_in (length threads) workers (get (codes "schedule") d)
-  Ok (record { version = napi_version; workers = workers; addons = addons.found; threads = threads; schedule = schedule; texts = addons.texts })
+  Ok (record { version = version; workers = workers; addons = addons.found; threads = threads; schedule = schedule; texts = addons.texts })
 
 -- the bytes are a JSON text of a value that is this script
 abbrev pub IsScript : List ℕ → Script → Type 0

@@ -24,14 +24,14 @@ returns-clause-ran g c =
     let script = c.args.script in
     let last = c.run.ensures.actors in
     ran-of script _ _ _ c.run.result c.requires.small (ap length c.items-2.ensures) (rw (length-map c.args.addons.now.items _) c.requires.enough)
-    (whole-ended script.addons _ _ _ _ (length script.threads) script.workers _ _ c.in_ok-opening.opening.env _ (rw (length-map c.args.addons.now.items _) c.requires.enough)
+    (whole-ended script.addons _ _ _ _ _ (length script.threads) script.workers _ _ c.in_ok-opening.opening.env _ (rw (length-map c.args.addons.now.items _) c.requires.enough)
     (ap length c.items.ensures) refl c.in_ok-opening.ensures.env c.requires.named c.load_all.ensures.plans c.load_all.ensures.blank
     c.run.result c.run.result.journal c.run.result.history _ _ c.load_all.ensures.seen c.run.ensures.ended refl refl)
     (c.run.ensures.plans.same ∙ c.load_all.ensures.plans)
-    (others-stay _ _ _ _ _ c.in_ok-opening.opening.env _ _ _ refl c.in_ok-opening.ensures.env (ap length c.items.ensures)
+    (others-stay _ _ _ _ _ _ c.in_ok-opening.opening.env _ _ _ refl c.in_ok-opening.ensures.env (ap length c.items.ensures)
     c.run.ensures.others c.load_all.ensures.others)
-    (threads-did _ _ script.threads script.workers _ c.requires.named (hub_seen g.N.Naming.numbers c.run.result.history) c.in-Ok.crew last.0
+    (threads-did _ _ _ script.threads script.workers _ c.requires.named (hub_seen g.N.Naming.numbers c.run.result.history) c.in-Ok.crew last.0
     (c.in-Ok.ensures ∙ c.in_ok-opening.ensures.actors) last.1 last.2 last.3 c.run.result.history refl)
-    (workers-did [] 0 script.threads script.workers _ c.requires.named (hub_seen g.N.Naming.numbers c.run.result.history) c.in-Ok.crew last.0
+    (workers-did 0 [] 0 script.threads script.workers _ c.requires.named (hub_seen g.N.Naming.numbers c.run.result.history) c.in-Ok.crew last.0
     (c.in-Ok.ensures ∙ c.in_ok-opening.ensures.actors) last.1 last.2 last.3 c.run.result.history refl)
     (λ words is. (let no : true ≡ false = sym (ap (λ o. is_some o) is) ∙ sym c.is_some.ensures ∙ c.if-is_some.false in cc))

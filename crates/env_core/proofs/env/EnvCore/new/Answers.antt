@@ -27,4 +27,4 @@ opened given limit entry room most =
 pub invariant_of-result : goal.invariant_of-result
 invariant_of-result c =
     rw (c.open.ensures.after, c.in_ok-state.ensures, c.push.ensures, c.in_ok-journal.ensures)
-    (opened (record { addons = c.args.addons; texts = c.args.texts }) c.args.limits.journal _ c.requires.room c.requires.most, tt)
+    (opened (record { version = c.args.version; addons = c.args.addons; texts = c.args.texts }) c.args.limits.journal _ c.requires.room c.requires.most, tt)
