@@ -33,7 +33,7 @@ setting = setting_within 6
 
 -- the call of the version
 abbrev pub version_told : ℕ → Entry
-version_told n = call_at n call.GetVersion status.Ok (out.Unsigned 9)
+version_told n = call_at n call.GetVersion status.Ok (out.Unsigned 10)
 
 -- the end of the frame, which is cut
 abbrev pub cut_full : Entry
@@ -73,8 +73,8 @@ Prints = text fixed_texts trace ≡
     ++ codes "5 env end 0 -\n"
     ++ codes "6 env go 0 -\n"
     ++ codes "7 env begin 0 item:0.1:f1.1\n"
-    ++ codes "8 env get_version 0 9\n"
-    ++ codes "9 env get_version 0 9\n"
+    ++ codes "8 env get_version 0 10\n"
+    ++ codes "9 env get_version 0 10\n"
     ++ codes "10 env end 0 cut:full\n"
     ++ codes "11 env loop_end 0 quiet\n"
     ++ codes "12 env drain 0 0\n"

@@ -53,6 +53,7 @@ pub mod TornWithoutEntry
 pub mod TwoAddons
 pub mod TwoFunctions
 pub mod TwoWorks
+pub mod VersionTen
 pub mod WorkWithoutWorkers
 pub mod WrapTwice
 pub mod WrapsAndTags

@@ -1,7 +1,8 @@
-//! Worked runs of cleanup hooks and of instance data, each as laws.
+//! Worked runs of cleanup hooks, of instance data and of version 10, each as laws.
 ghost use Rattle.machine_laws.specs.LegalRuns.{EndsAsTold};
 ghost use Rattle.machine_laws.specs.DoubledHooks as doubled_hooks;
 ghost use Rattle.machine_laws.specs.InstanceDataRun as instance_data;
+ghost use Rattle.machine_laws.specs.VersionTen as version_ten;
 
 /// Hooks that are added twice and removed twice.
 pub fn doubled_hooks_run()
@@ -20,4 +21,14 @@ pub fn instance_data_runs()
 
     // What was set last is told. The first finalizer is withdrawn and never begins, and the second begins once, after `finals`.
     ensures strict { instance_data.IsStrict }
+{}
+
+/// References to a number, and a guarded call in a hook, at version 10.
+pub fn version_ten_run()
+    ensures ends { EndsAsTold version_ten.setting version_ten.trace }
+    ensures prints { version_ten.Prints }
+
+    // A number is referred to, a strong reference keeps it and a weak one does not, and the guarded call in the hook is told that no JavaScript can run. The
+    // same entries are no run at version 9.
+    ensures strict { version_ten.IsStrict }
 {}
