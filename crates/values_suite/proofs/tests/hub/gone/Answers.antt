@@ -1,9 +1,0 @@
-use Rattle.std.proofs.Common.{refl}
-use Rattle.values_suite.proofs.HubsGoOn.{gone-on, actors-stay}
-use Rattle.values_suite.proofs.tests.hub.gone.Goals as goal
-
-pub returns-clause-stage : goal.returns-clause-stage
-returns-clause-stage g c = gone-on c.go.ensures c.requires.first
-
-pub returns-clause-actors : goal.returns-clause-actors
-returns-clause-actors g c = actors-stay _ _ _ c.go.ensures refl
