@@ -1,5 +1,0 @@
-use Rattle.turn_suite.specs.EnvironmentTurns.{IsFirstPass}
-use Rattle.turn_suite.proofs.tests.hub.rung.await_that.Given as goal
-
-abbrev pub invariant-loop : goal.invariant-loop
-invariant-loop g l = IsFirstPass l.fn.hub l.pass
