@@ -37,7 +37,7 @@ impl EnvRun {
             let after = states_of (λ b. regs b) (λ b. seen b) addons.new.items in
             MatchHubTurn N.numbers result (map (λ b. plan b) addons.old.items) self.old hub.old before self.new hub.new after }
     {
-        hub.knows();
+        hub.invariant();
         if let Some(call) = self.core.awaited() {
             return self.call_turn(hub, addons, &call);
         }

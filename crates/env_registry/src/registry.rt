@@ -56,8 +56,8 @@ impl Registry {
         })
     }
 
-    /// No effect. It recalls what holds of every registry.
-    pub fn recall(&self)
+    /// No effect. Its clause is the registry's invariant.
+    pub fn invariant(&self)
         ensures { AreOnce self.now.parts.attachments }
     {
         let _ = self.book.has_due();

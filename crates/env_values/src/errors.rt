@@ -8,7 +8,7 @@ ghost use Rattle.env_values.specs.KeepingHeaps.{CanMake, KeepsHeap};
 ghost use Rattle.env_values.specs.SeenValues.{heap_of, KeepsValues};
 ghost use Rattle.env_values.specs.ValueSteps.{Comes, GivesHandle};
 
-use crate::known::{recall, text, value_of_handle};
+use crate::known::{invariant, text, value_of_handle};
 use crate::stop::Stop;
 use handle_scope::Scopes;
 use napi_types::{Call, HandleId, NoMemory, Out, TextNo, ValueId};
@@ -34,7 +34,7 @@ pub fn error_value(
     ensures err { OnErr result (store.new ≡ store.old) }
 {
     // A value that is live has another number than a new one.
-    recall(store);
+    invariant(store);
     store.make_error(code, message)
 }
 
@@ -55,7 +55,7 @@ pub fn thrown_value(
     ensures err { OnErr result (store.new ≡ store.old) }
 {
     // A value that is live has another number than a new one.
-    recall(store);
+    invariant(store);
     store.make_thrown(code, message)
 }
 
@@ -75,7 +75,7 @@ fn give_error(
     ensures keeps { KeepsHeap store.old scopes.old store.new scopes.new }
 {
     scopes.reserve()?;
-    recall(store);
+    invariant(store);
     let error = error_value(store, code, message)?;
     Ok(Out::Handle(scopes.issue_reserved(error)))
 }

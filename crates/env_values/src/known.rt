@@ -181,8 +181,8 @@ pub(crate) fn is_error_value(body: Body) -> bool
     matches!(body, Body::Object { error: true, .. })
 }
 
-/// Recalls what holds of every store, which a store tells where it gives a value.
-pub fn recall(store: &Store)
+/// No effect. Its clause is the store's invariant, which `Store::get` proves.
+pub fn invariant(store: &Store)
     ensures { IsSoundStore store.now }
 {
     let _ = store.get(store.starting(0));
@@ -195,7 +195,7 @@ pub(crate) fn equals_strictly(store: &Store, left: HandleValue, right: HandleVal
     ensures { result ≡ strictly_equal left.body (number_in store.now left.id.0) right.body (number_in store.now right.id.0) }
 {
     // No two live values have one creation number.
-    recall(store);
+    invariant(store);
     match (left.body, right.body) {
         (Body::Number(left), Body::Number(right)) => left == right,
         (Body::Bigint(left), Body::Bigint(right)) => left == right,

@@ -14,6 +14,6 @@ mod stop;
 mod values;
 
 pub use errors::{error_value, thrown_value};
-pub use known::{HandleValue, or_undefined, recall, value_of_handle};
+pub use known::{HandleValue, invariant, or_undefined, value_of_handle};
 pub use makes::make_held;
 pub use step::value_step;

@@ -7,7 +7,7 @@ ghost use Rattle.env_values.specs.KeepingHeaps.{CanGive, CanMake, KeepsScopes, K
 ghost use Rattle.env_values.specs.SeenValues.{heap_of};
 ghost use Rattle.env_values.specs.ValueSteps.{GivesHandle};
 
-use crate::known::recall;
+use crate::known::invariant;
 use handle_scope::Scopes;
 use napi_types::{Body, HandleId, NoMemory, Out, ValueId};
 use value_store::Store;
@@ -70,7 +70,7 @@ fn make_handle(
 {
     scopes.reserve()?;
     // A value that a scope holds has another number than a new one.
-    recall(store);
+    invariant(store);
     let value = store.make(body)?;
     Ok((value, scopes.issue_reserved(value)))
 }

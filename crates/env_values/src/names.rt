@@ -11,7 +11,7 @@ ghost use Rattle.env_values.specs.KeepingHeaps.{CanGive, CanMake, KeepsHeap};
 ghost use Rattle.env_values.specs.SeenValues.{heap_of, HoldsLive};
 ghost use Rattle.env_values.specs.ValueSteps.{Comes, GivesHandle};
 
-use crate::known::{lent_value, object_like, recall};
+use crate::known::{invariant, lent_value, object_like};
 use crate::stop::Stop;
 use handle_scope::Scopes;
 use napi_types::{Body, Call, HandleId, NoMemory, Out, Status};
@@ -77,7 +77,7 @@ fn give_list(store: &mut Store, scopes: &mut Scopes, bodies: &[Body]) -> Result<
     ensures keeps { KeepsHeap store.old scopes.old store.new scopes.new }
 {
     scopes.reserve()?;
-    recall(store);
+    invariant(store);
     let value = store.make_list(bodies)?;
     Ok(Out::Handle(scopes.issue_reserved(value)))
 }

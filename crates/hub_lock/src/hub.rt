@@ -161,6 +161,6 @@ fn threads_of<J: Job, N: Naming>(state: &HubState<J, N>, actors: u32) -> u32
     requires opens { state.now.history ≡ [] }
     ensures { result ≡ N.numbers.threads }
 {
-    state.knows();
+    state.invariant();
     actors - 1 - state.workers()
 }

@@ -33,11 +33,11 @@ impl<S: Told> Told for Locked<S> {
 }
 
 impl<J: Job, N: Naming> Locked<HubState<J, N>> {
-    /// Does nothing. Its contract tells what the state's type keeps: see [`HubState::knows`].
-    pub fn knows(&self)
+    /// No effect. Its clauses are the invariant of the state: see [`HubState::invariant`].
+    pub fn invariant(&self)
         ensures { IsLedHub N.numbers self.now.state.value }
     {
-        self.state.knows();
+        self.state.invariant();
     }
 
     /// The turn of the pass of this number ends. Where the hub's last answer said that it waits it is noted asleep. Which passes are to be rung, a bit for
@@ -61,11 +61,11 @@ impl<J: Job, N: Naming> Locked<HubState<J, N>> {
     {
         if !self.state.is_live() {
             self.state.wait_for_go();
-            self.state.knows();
+            self.state.invariant();
             return ThreadTried::Wait;
         }
         let tried = self.state.thread_call(number - 1, step, call);
-        self.state.knows();
+        self.state.invariant();
         tried
     }
 
@@ -78,7 +78,7 @@ impl<J: Job, N: Naming> Locked<HubState<J, N>> {
         ensures known { IsLedHub N.numbers self.new.state.value }
     {
         let picked = self.state.start(worker);
-        self.state.knows();
+        self.state.invariant();
         picked
     }
 
@@ -89,7 +89,7 @@ impl<J: Job, N: Naming> Locked<HubState<J, N>> {
         ensures known { IsLedHub N.numbers self.new.state.value }
     {
         self.state.finish(worker, ran);
-        self.state.knows();
+        self.state.invariant();
     }
 
     /// The end of a thread or a worker, where it may come. A thread waits for `go`.
@@ -100,11 +100,11 @@ impl<J: Job, N: Naming> Locked<HubState<J, N>> {
     {
         if !self.state.is_live() {
             self.state.wait_for_go();
-            self.state.knows();
+            self.state.invariant();
             return false;
         }
         self.state.actor_end(actor, cut);
-        self.state.knows();
+        self.state.invariant();
         true
     }
 }

@@ -90,7 +90,7 @@ pub(crate) fn turn_at_the_lock<J: Job, N: Naming, R: Wait>(
     ensures idle { result ≡ ActorTurn.Ended → HoldsNoWork actor.new }
 {
     let mut held = hub.take(rt, pass);
-    held.value.knows();
+    held.value.invariant();
     let turn = burst_under_the_lock(&mut held.value, actor, most);
     stay_awake(&mut held.value, sleeps);
     hub.give(pass, held);
@@ -137,7 +137,7 @@ fn turn_under_the_lock<J: Job, N: Naming>(
     ensures known { IsLedHub N.numbers locked.new.state.value }
 {
     let turn = actor.turn(&mut locked.state);
-    locked.knows();
+    locked.invariant();
     turn
 }
 

@@ -43,6 +43,6 @@ pub fn close<J: Job, N: Naming>(hub: Hub<J, N>, passes: Vec<Pass>, env: EnvRun) 
     ensures actors { All (λ p. (a : ActorRun J) → IsAtPass N.numbers p a → IsActorOf N.numbers (hub_seen N.numbers result.history) a) passes.items }
 {
     let state = Box::into_inner(hub.close(passes));
-    state.knows();
+    state.invariant();
     env.into_record(state)
 }

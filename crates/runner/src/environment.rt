@@ -164,7 +164,7 @@ fn turn_at_the_lock<J: Job, N: Naming, R: Wait>(
         drop n (map (λ b. regs b) addons.new.items) ≡ drop n (map (λ b. regs b) addons.old.items) }
 {
     let mut held = hub.take(rt, pass);
-    held.value.knows();
+    held.value.invariant();
     let turn = turn_under_the_lock(&mut held.value, env, addons);
     hub.give(pass, held);
     turn
@@ -191,6 +191,6 @@ fn turn_under_the_lock<J: Job, N: Naming>(
         drop n (map (λ b. regs b) addons.new.items) ≡ drop n (map (λ b. regs b) addons.old.items) }
 {
     let burst = env.hub_burst(&mut locked.state, addons, MOST_EVENTS);
-    locked.knows();
+    locked.invariant();
     burst.last
 }

@@ -63,7 +63,7 @@ pub(crate) fn passes_for<J: Job, N: Naming>(state: &HubState<J, N>, actors: usiz
     requires opens { state.now.history ≡ [] }
     ensures { result ≡ 1 + N.numbers.threads + N.numbers.workers }
 {
-    state.knows();
+    state.invariant();
     1 + actors as u32
 }
 

@@ -137,7 +137,7 @@ pub fn in_turns<N: Naming>(
     } = opening;
     load_all(addons, plans);
     step_all(&mut env, &mut hub, &mut actors, words_of(&schedule), addons);
-    hub.knows();
+    hub.invariant();
     retire_all(actors);
     *left = env.into_record(hub);
     Ok(texts)

@@ -132,9 +132,9 @@ impl<J: Job, N: Naming> HubState<J, N> {
         self.progress.is_moving() && !self.progress.stands
     }
 
-    /// Does nothing. Its contract tells what the type keeps: the history replays and has led to the hub, at the numbers that the type
+    /// No effect. Its clauses are the invariant of the type: the history replays and has led to the hub, at the numbers that the type
     /// names, and its entries and the places that it owes are within the limit.
-    pub fn knows(&self)
+    pub fn invariant(&self)
         ensures { IsLedHub N.numbers self.now }
     {
         let _limit = self.limit;

@@ -104,6 +104,6 @@ pub(crate) fn round<J: Job, N: Naming>(
             *resting = false;
         }
     }
-    hub.knows();
+    hub.invariant();
     false
 }

@@ -20,11 +20,11 @@ use env_loop::{ActorRun, EnvRun};
 use napi_types::{Actor, Phase};
 use shared_hub::{HubState, Naming};
 
-/// Gives turns to the environment, the threads and the workers until the environment is gone: first those of the schedule, in their order, and then rounds of the
-/// environment, the threads rising and the workers rising.
+/// Gives turns to the environment, the threads and the workers until the environment is gone: first those of the schedule, in their order, and then rounds of
+/// the environment, the threads rising and the workers rising.
 ///
-/// The environment's first turn of the schedule is its opening, which is made already. A turn adds at most one entry. One of an actor that waits, has nothing to do or
-/// has ended adds none, and neither does one after `gone`. A worker executes its job at the beginning of the turn in which it finishes.
+/// The environment's first turn of the schedule is its opening, which is made already. A turn adds at most one entry. One of an actor that waits, has nothing
+/// to do or has ended adds none, and neither does one after `gone`. A worker executes its job at the beginning of the turn in which it finishes.
 ///
 /// No turn was made before but that opening. It always returns: each round before `gone` fills a place of the journal or of the history, or a call is stopped.
 pub fn step_all<J: Job, N: Naming>(
@@ -53,7 +53,8 @@ pub fn step_all<J: Job, N: Naming>(
         let left : Record = record { journal = env.new.core.journal; history = hub.new.history } in
         AroseWhole N.numbers (map (λ b. plan b) addons.old.items) schedule.now env.old before actors.old.items left }
 
-    // A run that was followed from its opening goes on, and came to its end in these two lists, in which nobody is lost. The addons that are no addons of the script keep their registers.
+    // A run that was followed from its opening goes on, and came to its end in these two lists, in which nobody is lost. The addons that are no addons of the
+    // script keep their registers.
     ensures goes { let before = states_of (λ b. regs b) (λ b. seen b) addons.old.items in
         let after = states_of (λ b. regs b) (λ b. seen b) addons.new.items in
         GoesOnAt N.numbers (map (λ b. plan b) addons.old.items) env.old [] before env.new hub.new.history after }
@@ -78,7 +79,7 @@ pub fn step_all<J: Job, N: Naming>(
     let mut resting = false;
     'rounds: loop {
         if round(env, hub, actors, addons, &mut resting) {
-            hub.knows();
+            hub.invariant();
             return;
         }
     }

@@ -24,12 +24,12 @@ pub(crate) fn environment_turn<J: Job, N: Naming>(
         (run_at env.old hub.old (map (λ b. regs b) addons.old.items) (map (λ b. seen b) addons.old.items))
         (run_at env.new hub.new (map (λ b. regs b) addons.new.items) (map (λ b. seen b) addons.new.items)) }
 {
-    hub.knows();
+    hub.invariant();
     match env.local_turn(addons) {
         LocalTurn::Made => LocalTurn::Made,
         LocalTurn::NeedsHub => {
             let _ = env.hub_turn(hub, addons);
-            hub.knows();
+            hub.invariant();
             LocalTurn::NeedsHub
         }
         LocalTurn::Gone => LocalTurn::Gone,
@@ -46,9 +46,9 @@ pub(crate) fn actor_turn<J: Job, N: Naming>(
     requires stands { All (IsActorOf N.numbers hub.old) actors.old.items }
     ensures { ActorSteps N.numbers place result actors.old.items hub.old actors.new.items hub.new }
 {
-    hub.knows();
+    hub.invariant();
     let made = take_turn(&mut actors[place], hub);
-    hub.knows();
+    hub.invariant();
     made
 }
 

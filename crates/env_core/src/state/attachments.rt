@@ -66,7 +66,7 @@ impl State {
             return Ok(Reply::plain(Status::InvalidArg, Out::Nothing));
         }
         // The value has one wrap at most.
-        self.registry.recall();
+        self.registry.invariant();
         let asked = self.finalizer_if(payload, finalizer, hint);
         self.registry.reserve_wrap(asked)?;
         let out = refer_if(&mut self.references, value, wanted)?;
@@ -173,7 +173,7 @@ impl State {
             return Ok(Reply::plain(Status::InvalidArg, Out::Nothing));
         }
         // The value has one tag at most.
-        self.registry.recall();
+        self.registry.invariant();
         self.registry.tag(value, lower, upper)?;
         Ok(Reply::plain(Status::Ok, Out::Nothing))
     }

@@ -7,7 +7,7 @@ ghost use Rattle.env_core.specs.State.{AnswersInTime, FindsNoMemory};
 
 use super::State;
 use crate::roots::roots_of;
-use env_values::recall;
+use env_values::invariant;
 use napi_types::{Call, CallGroup, NoMemory, Out, Reply, Status};
 
 impl State {
@@ -41,8 +41,8 @@ impl State {
             self.exceptions.pending(),
         )?;
         // What is attached to live values is told apart by their creation numbers, and a value has one wrap and one tag at most.
-        recall(&self.store);
-        self.registry.recall();
+        invariant(&self.store);
+        self.registry.invariant();
         let freed = trace_collect::collect(self.alloc, &mut self.store, &roots)?;
         self.references.empty_of(&freed);
         self.registry.gone_all(&freed);

@@ -78,7 +78,7 @@ impl ThreadRun {
             hub.wait_for_go();
             return ActorTurn::Blocked;
         }
-        hub.knows();
+        hub.invariant();
         let Some(operation) = self.operations.items().get(self.made as usize) else {
             self.end(hub, None);
             return ActorTurn::Made;
@@ -107,7 +107,7 @@ impl ThreadRun {
         ensures script { SameThread self.old self.new }
         ensures made { AddsEntryOf (actor_of.Thread self.old.number) hub.old hub.new }
     {
-        hub.knows();
+        hub.invariant();
         hub.actor_end(Actor::Thread(self.number), cut);
         self.over = true;
     }

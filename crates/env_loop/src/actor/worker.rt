@@ -87,7 +87,7 @@ impl<J: Job> WorkerRun<J> {
         if self.over {
             return ActorTurn::Ended;
         }
-        hub.knows();
+        hub.invariant();
         match mem::replace(&mut self.hands, Hands::Empty) {
             Hands::Executed(ran) => {
                 hub.finish(self.number, ran);
@@ -111,7 +111,7 @@ impl<J: Job> WorkerRun<J> {
         ensures ended { result ≢ ActorTurn.Ended }
         ensures unexecuted { result ≡ ActorTurn.Made → IsUnexecuted self.new.held }
     {
-        hub.knows();
+        hub.invariant();
         match hub.start(self.number) {
             Picked::Job(running) => {
                 take_up(&mut self.hands, Hands::Started(running));

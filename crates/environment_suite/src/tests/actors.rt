@@ -44,7 +44,7 @@ fn go<N: Naming>(thread: &ActorRun<ScriptJob>, hub: &mut HubState<ScriptJob, N>)
     requires alone { hub.old.hub.standing ≡ None }
     ensures { IsActorOf N.numbers hub.new thread.now }
 {
-    hub.knows();
+    hub.invariant();
     hub.go();
 }
 
@@ -133,7 +133,7 @@ fn take_turn<N: Naming>(
     ensures fits { (run : Run) → FitsHub run hub.old → FitsHub run hub.new }
     ensures free { result ≡ ActorTurn.Ended → HoldsNoWork actor.new }
 {
-    hub.knows();
+    hub.invariant();
     actor.between();
     actor.turn(hub)
 }

@@ -166,7 +166,7 @@ pub fn turn<N: Naming>(
     ensures gone { result ≡ true → env.new.core.env.phase ≡ phase.Gone }
     ensures actors { (actor : ActorRun ScriptJob) → IsActorOf N.numbers hub.old actor → IsActorOf N.numbers hub.new actor }
 {
-    hub.knows();
+    hub.invariant();
     match local(env, addons) {
         LocalTurn::Made => false,
         LocalTurn::NeedsHub => {

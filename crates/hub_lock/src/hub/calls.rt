@@ -103,7 +103,7 @@ impl<J: Job, N: Naming> Hub<J, N> {
     {
         let number = pass.number();
         let mut held = self.take(rt, pass);
-        held.value.knows();
+        held.value.invariant();
         let tried = held.value.call(number, step, call);
         self.give(pass, held);
         tried

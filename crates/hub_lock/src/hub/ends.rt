@@ -39,7 +39,7 @@ impl<J: Job, N: Naming> Hub<J, N> {
         let number = pass.number();
         let actor = self.actor(number);
         let mut held = self.take(rt, pass);
-        held.value.knows();
+        held.value.invariant();
         let ended = held.value.end(actor, cut);
         self.give(pass, held);
         ended

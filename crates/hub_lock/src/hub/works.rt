@@ -42,7 +42,7 @@ impl<J: Job, N: Naming> Hub<J, N> {
         let number = pass.number();
         let worker = self.worker(number);
         let mut held = self.take(rt, pass);
-        held.value.knows();
+        held.value.invariant();
         let picked = held.value.start(worker);
         self.give(pass, held);
         picked
@@ -59,7 +59,7 @@ impl<J: Job, N: Naming> Hub<J, N> {
     {
         let worker = self.worker(pass.number());
         let mut held = self.take(rt, pass);
-        held.value.knows();
+        held.value.invariant();
         held.value.finish(worker, ran);
         self.give(pass, held);
     }

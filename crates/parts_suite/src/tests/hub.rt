@@ -607,7 +607,7 @@ fn worker_ended<J: Job, N: Naming>(state: &mut HubState<J, N>)
     requires free { IsWorkerFree state.old.hub }
     ensures { KeepsStanding state.old.hub state.new.hub }
 {
-    state.knows();
+    state.invariant();
     state.actor_end(Actor::Worker(0), None);
 }
 

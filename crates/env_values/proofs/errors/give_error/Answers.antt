@@ -20,7 +20,7 @@ returns-clause-gives c =
     given-answer (with_error code message (heap_of s scopes)) (heap_of c.error_value.new.store after) (s.made + 1) c.issue_reserved.result
     (c.issue_reserved.ensures.handle ∙ ap (λ (x : HandleScopes). x.handles + 1) c.in_ok-reserve.ensures.ok)
     (made-heap s c.error_value.new.store (with_reserved_place scopes) after c.in_ok-error.error.0 (error_of (s.made + 1) (option_map (λ (v : ValueId). v.0) c.args.code) c.args.message.0) (error_of (s.made + 1) code message)
-    c.recall.ensures c.in_ok-error.ensures.made refl c.in_ok-error.ensures.graph c.requires.able.give.live issued)
+    c.invariant.ensures c.in_ok-error.ensures.made refl c.in_ok-error.ensures.graph c.requires.able.give.live issued)
 
 pub returns-clause-keeps : goal.returns-clause-keeps
 returns-clause-keeps c =
@@ -29,5 +29,5 @@ returns-clause-keeps c =
     c.issue_reserved.ensures.issued ∙ ap (with_issued_handle c.in_ok-error.error.0) c.in_ok-reserve.ensures.ok in
     record {
       scopes = record { live = made-live c.args.store.now c.error_value.new.store (with_reserved_place scopes) c.issue_reserved.new.self c.in_ok-error.error.0 _ c.in_ok-error.ensures.made c.requires.able.give.live issued; calls = ap (λ (x : HandleScopes). x.by_call) issued };
-      values = keeps_made c.args.store.now c.error_value.new.store c.in_ok-error.error.0 _ c.recall.ensures c.in_ok-error.ensures.made;
+      values = keeps_made c.args.store.now c.error_value.new.store c.in_ok-error.error.0 _ c.invariant.ensures c.in_ok-error.ensures.made;
     }

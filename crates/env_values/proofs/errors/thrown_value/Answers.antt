@@ -13,4 +13,4 @@ pub returns-clause-made : goal.returns-clause-made
 returns-clause-made c = listed_made_or_not c.args.store.now c.make_thrown.new.self (length (thrown_strings c.args.code c.args.message)) c.make_thrown.result c.make_thrown.ensures.listed
 
 pub returns-clause-kept : goal.returns-clause-kept
-returns-clause-kept c = keeps_listed_or_not c.args.store.now c.make_thrown.new.self (length (thrown_strings c.args.code c.args.message)) c.make_thrown.result c.recall.ensures c.make_thrown.ensures.listed c.make_thrown.ensures.err
+returns-clause-kept c = keeps_listed_or_not c.args.store.now c.make_thrown.new.self (length (thrown_strings c.args.code c.args.message)) c.make_thrown.result c.invariant.ensures c.make_thrown.ensures.listed c.make_thrown.ensures.err

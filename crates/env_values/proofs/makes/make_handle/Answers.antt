@@ -17,7 +17,7 @@ returns-clause-gives c =
     let issued : after ≡ with_issued_handle c.in_ok-value.value.0 (with_reserved_place scopes) = c.issue_reserved.ensures.issued ∙ ap (with_issued_handle c.in_ok-value.value.0) c.in_ok-reserve.ensures.ok in
     given-answer (with_value c.args.body (heap_of s scopes)) (heap_of c.make.new.self after) (s.made + 1) c.issue_reserved.result
     (c.issue_reserved.ensures.handle ∙ ap (λ (x : HandleScopes). x.handles + 1) c.in_ok-reserve.ensures.ok)
-    (made-heap s c.make.new.self (with_reserved_place scopes) after c.in_ok-value.value.0 value value c.recall.ensures c.in_ok-value.ensures.made refl c.in_ok-value.ensures.graph c.requires.able.give.live issued)
+    (made-heap s c.make.new.self (with_reserved_place scopes) after c.in_ok-value.value.0 value value c.invariant.ensures c.in_ok-value.ensures.made refl c.in_ok-value.ensures.graph c.requires.able.give.live issued)
 
 pub returns-clause-keeps : goal.returns-clause-keeps
 returns-clause-keeps c =
@@ -26,7 +26,7 @@ returns-clause-keeps c =
     c.issue_reserved.ensures.issued ∙ ap (with_issued_handle c.in_ok-value.value.0) c.in_ok-reserve.ensures.ok in
     record {
       scopes = record { live = made-live c.args.store.now c.make.new.self (with_reserved_place scopes) c.issue_reserved.new.self c.in_ok-value.value.0 _ c.in_ok-value.ensures.made c.requires.able.give.live issued; calls = ap (λ (x : HandleScopes). x.by_call) issued };
-      values = keeps_made c.args.store.now c.make.new.self c.in_ok-value.value.0 _ c.recall.ensures c.in_ok-value.ensures.made;
+      values = keeps_made c.args.store.now c.make.new.self c.in_ok-value.value.0 _ c.invariant.ensures c.in_ok-value.ensures.made;
     }
 
 pub returns-clause-live : goal.returns-clause-live

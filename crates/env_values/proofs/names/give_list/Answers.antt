@@ -15,7 +15,7 @@ returns-clause-gives c =
     let issued : after ≡ with_issued_handle c.in_ok-value.value.0 (with_reserved_place scopes) = c.issue_reserved.ensures.issued ∙ ap (with_issued_handle c.in_ok-value.value.0) c.in_ok-reserve.ensures.ok in
     given-answer (with_list bodies (heap_of s scopes)) (heap_of c.make_list.new.self after) (s.made + length bodies + 1) c.issue_reserved.result
     (c.issue_reserved.ensures.handle ∙ ap (λ (x : HandleScopes). x.handles + 1) c.in_ok-reserve.ensures.ok)
-    (listed-heap s c.make_list.new.self (with_reserved_place scopes) after c.in_ok-value.value.0 bodies c.recall.ensures c.in_ok-value.ensures.listed c.in_ok-value.ensures.graph c.requires.able.give.live issued)
+    (listed-heap s c.make_list.new.self (with_reserved_place scopes) after c.in_ok-value.value.0 bodies c.invariant.ensures c.in_ok-value.ensures.listed c.in_ok-value.ensures.graph c.requires.able.give.live issued)
 
 pub returns-clause-keeps : goal.returns-clause-keeps
 returns-clause-keeps c =
@@ -23,6 +23,7 @@ returns-clause-keeps c =
     let issued : c.issue_reserved.new.self ≡ with_issued_handle c.in_ok-value.value.0 (with_reserved_place scopes) =
     c.issue_reserved.ensures.issued ∙ ap (with_issued_handle c.in_ok-value.value.0) c.in_ok-reserve.ensures.ok in
     record {
-      scopes = record { live = listed-live c.args.store.now c.make_list.new.self (with_reserved_place scopes) c.issue_reserved.new.self c.in_ok-value.value.0 (length c.args.bodies.now) c.recall.ensures c.in_ok-value.ensures.listed c.requires.able.give.live issued; calls = ap (λ (x : HandleScopes). x.by_call) issued };
-      values = keeps_listed c.args.store.now c.make_list.new.self c.in_ok-value.value.0 (length c.args.bodies.now) c.recall.ensures c.in_ok-value.ensures.listed;
+      scopes = record { live = listed-live c.args.store.now c.make_list.new.self (with_reserved_place scopes) c.issue_reserved.new.self c.in_ok-value.value.0 (length c.args.bodies.now) c.invariant.ensures c.in_ok-value.ensures.listed c.requires.able.give.live issued; calls = ap (λ (x : HandleScopes). x.by_call) issued };
+      values = keeps_listed c.args.store.now c.make_list.new.self c.in_ok-value.value.0
+          (length c.args.bodies.now) c.invariant.ensures c.in_ok-value.ensures.listed;
     }

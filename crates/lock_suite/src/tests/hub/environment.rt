@@ -64,7 +64,7 @@ pub(super) fn turn<N: Naming, R: Wait>(
 {
     let mut held = hub.take(rt, pass);
     let seen = act(&mut held.value.state, threads, does);
-    held.value.knows();
+    held.value.invariant();
     hub.give(pass, held);
     seen
 }

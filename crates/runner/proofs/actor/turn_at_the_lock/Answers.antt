@@ -8,7 +8,7 @@ pub burst_under_the_lock-turn-requires-clause-stands :
     goal.burst_under_the_lock-turn-requires-clause-stands
 burst_under_the_lock-turn-requires-clause-stands g c κs within =
     actor-at-take g.N.Naming.numbers c.args.pass.now c.take-held.result.value.state.value.history c.take-held.ensures.seen c.take-held.ensures.own c.args.actor.now
-    c.take-held.result.value.state.value refl c.knows.ensures.led c.requires.at
+    c.take-held.result.value.state.value refl c.invariant.ensures.led c.requires.at
 
 pub give-requires-clause-adds : goal.give-requires-clause-adds
 give-requires-clause-adds g c κs within =

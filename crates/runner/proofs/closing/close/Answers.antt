@@ -17,15 +17,16 @@ returns-clause-own g c =
     (λ p rows. p.own ≡ own_rows p.number rows) c.args.passes.items c.close.ensures.own
 
 pub returns-clause-led : goal.returns-clause-led
-returns-clause-led g c = led-whole g.N.Naming.numbers c.into_inner-state.result c.into_record.result c.knows.ensures c.into_record.ensures.history
+returns-clause-led g c = led-whole g.N.Naming.numbers c.into_inner-state.result c.into_record.result c.invariant.ensures c.into_record.ensures.history
 
 pub returns-clause-ended : goal.returns-clause-ended
 returns-clause-ended g c =
-    ended-whole g.N.Naming.numbers c.close.result.value (subst (IsLedHub g.N.Naming.numbers) c.into_inner-state.ensures c.knows.ensures) c.into_record.result c.args.env
+    ended-whole g.N.Naming.numbers c.close.result.value
+    (subst (IsLedHub g.N.Naming.numbers) c.into_inner-state.ensures c.invariant.ensures) c.into_record.result c.args.env
     (c.into_record.ensures.history ∙ ap (λ (s : HubSeen). s.history) c.into_inner-state.ensures) c.into_record.ensures.journal c.requires.gone
     c.args.hub.passes c.args.passes.items c.requires.every c.close.ensures.seen c.close.ensures.own
 
 pub returns-clause-actors : goal.returns-clause-actors
 returns-clause-actors g c =
-    all-stay g.N.Naming.numbers c.close.result.value (subst (IsLedHub g.N.Naming.numbers) c.into_inner-state.ensures c.knows.ensures) c.into_record.result
+    all-stay g.N.Naming.numbers c.close.result.value (subst (IsLedHub g.N.Naming.numbers) c.into_inner-state.ensures c.invariant.ensures) c.into_record.result
     (c.into_record.ensures.history ∙ ap (λ (s : HubSeen). s.history) c.into_inner-state.ensures) c.args.passes.items c.close.ensures.seen c.close.ensures.own

@@ -17,7 +17,7 @@ pub retire_all-requires : goal.retire_all-requires
 retire_all-requires g c =
     let ran = c.step_all.ensures in
     all-free 0 [] 0 c.args.script.threads c.args.script.workers _ c.requires.named c.step_all.new.hub c.in_ok-opening.opening.actors.items c.step_all.new.actors.items
-    c.in_ok-opening.ensures.actors ran.same ran.stands ran.over c.knows.ensures
+    c.in_ok-opening.ensures.actors ran.same ran.stands ran.over c.invariant.ensures
 
 pub returns-clause-ran : goal.returns-clause-ran
 returns-clause-ran g c =

@@ -66,4 +66,4 @@ pub returns-clause-went : goal.returns-clause-went
 returns-clause-went g c =
     let i = c.loop-place.invariant in
     let all : length c.loop-place.actors.items ≤ c.loop-place.place = omega (arith, c.loop-place-test.false, c.len-place-end.ensures, i.many) in
-    round-steps _ _ _ _ c.requires.stands c.knows.ensures c.loop-place.place all i.went i.progress
+    round-steps _ _ _ _ c.requires.stands c.invariant.ensures c.loop-place.place all i.went i.progress

@@ -43,7 +43,7 @@ returns-then-round-clause-over g c =
 pub returns-then-round-clause-ended : goal.returns-then-round-clause-ended
 returns-then-round-clause-ended g c =
     let was = c.round.ensures.went.was c.if-round.true in
-    ended-at-last g.N.Naming.numbers _ _ _ _ c.requires.empty c.rounds.invariant.went.1.kept was.1 was.0 c.knows.ensures
+    ended-at-last g.N.Naming.numbers _ _ _ _ c.requires.empty c.rounds.invariant.went.1.kept was.1 was.0 c.invariant.ensures
 
 pub returns-then-round-clause-arose : goal.returns-then-round-clause-arose
 returns-then-round-clause-arose g c =

@@ -42,7 +42,7 @@ invariant_of-self-2 c =
       state-collected s.store c.collect.new.store s.scopes s.frames (map_of s.references) (map_of c.empty_of.new.self) s.function_roots s.exceptions.pending roots freed alive
           c.self.invariant.0 are others (rw c.deref-2.ensures.value at c.empty_of.ensures.emptied),
       rw (c.gone_all.ensures, c.deref-3.ensures.value)
-          (attached-left s.store c.collect.new.store roots freed alive others c.recall.ensures s.registry.parts.attachments c.self.invariant.1),
+          (attached-left s.store c.collect.new.store roots freed alive others c.invariant.ensures s.registry.parts.attachments c.self.invariant.1),
       rw c.gone_all.ensures (begun-still-moved s.frames Falls (λ h. cc) s.registry.parts.book _ c.self.invariant.2),
     )
 
@@ -60,6 +60,7 @@ returns-clause-ok c =
     (rw (c.plain.ensures, c.len.ensures, c.gone_all.ensures)
     (collected-answers (the_view s) s.store c.collect.new.store s.scopes s.frames (map_of s.references) (map_of c.empty_of.new.self) s.function_roots s.exceptions.pending roots freed (reached s.store roots) c.in_ok-freed.freed.len
     c.self.invariant.0 are refl others k.graph (c.in_ok-freed.freed.ok.0 ∙ k.count) (rw c.deref-2.ensures.value at c.empty_of.ensures.emptied) _ _
-    (rw c.deref-3.ensures.value (seen-left s.store c.collect.new.store roots freed alive others c.recall.ensures s.registry.parts.attachments c.self.invariant.1))
     (rw c.deref-3.ensures.value
-    (due-seen s.store c.collect.new.store roots freed alive others c.recall.ensures s.registry.parts.attachments c.self.invariant.1 s.registry.parts.book c.recall-2.ensures))))
+    (seen-left s.store c.collect.new.store roots freed alive others c.invariant.ensures s.registry.parts.attachments c.self.invariant.1))
+    (rw c.deref-3.ensures.value
+    (due-seen s.store c.collect.new.store roots freed alive others c.invariant.ensures s.registry.parts.attachments c.self.invariant.1 s.registry.parts.book c.invariant-2.ensures))))

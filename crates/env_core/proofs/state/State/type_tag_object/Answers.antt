@@ -36,6 +36,6 @@ returns-clause-ok c =
     let k = c.in-Ok.ensures in
     rw (← c.self.view_is)
     (rw (c.plain-2.ensures, c.in_ok-tag.ensures.ok)
-    (tag-answers (the_view s) s.store k.sound s.registry.parts.attachments c.self.invariant.1 c.args.object v k.live k.number c.args.lower c.args.upper c.recall.ensures
+    (tag-answers (the_view s) s.store k.sound s.registry.parts.attachments c.self.invariant.1 c.args.object v k.live k.number c.args.lower c.args.upper c.invariant.ensures
     (untold c.tag_of.result (sym c.is_some.ensures ∙ c.if-is_some.false) ∙ c.tag_of.ensures)
     (tag-unrefused (the_view s) s.store k.sound s.registry.parts.attachments c.self.invariant.1 c.args.object v k.live k.number c.args.lower c.args.upper c.tag_of.result k.refusal c.tag_of.ensures (sym c.is_some.ensures ∙ c.if-is_some.false))))

@@ -6,4 +6,4 @@ returns-clause-fits g c = fits-beside c.turn.result c.between.new.self c.args.hu
 
 pub returns-clause-free : goal.returns-clause-free
 returns-clause-free g c =
-    ended-free g.N.Naming.numbers c.turn.result c.args.hub.now c.turn.new.hub c.between.new.self c.turn.new.self c.knows.ensures c.turn.ensures.stands c.turn.ensures.same c.turn.ensures.ended
+    ended-free g.N.Naming.numbers c.turn.result c.args.hub.now c.turn.new.hub c.between.new.self c.turn.new.self c.invariant.ensures c.turn.ensures.stands c.turn.ensures.same c.turn.ensures.ended

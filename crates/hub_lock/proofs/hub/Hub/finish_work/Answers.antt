@@ -8,7 +8,7 @@ pub finish-requires : goal.finish-requires
 finish-requires g c = (
   c.type_bounds.send-J,
   rw (c.worker-worker.ensures, c.number.ensures)
-      (still-executes g.N.Naming.numbers c.args.pass.now c.take-held.result.value.state.value c.knows.ensures c.take-held.ensures.seen c.requires.executed.history c.requires.executed.rows
+      (still-executes g.N.Naming.numbers c.args.pass.now c.take-held.result.value.state.value c.invariant.ensures c.take-held.ensures.seen c.requires.executed.history c.requires.executed.rows
       c.args.ran.number c.args.ran.value c.requires.worker.0 c.take-held.ensures.known c.take-held.ensures.own c.requires.executed.shows),
 )
 

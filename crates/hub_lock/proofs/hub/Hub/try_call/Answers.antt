@@ -7,7 +7,7 @@ use Rattle.hub_lock.proofs.hub.Hub.try_call.Goals as goal
 pub call-tried-requires-clause-left : goal.call-tried-requires-clause-left
 call-tried-requires-clause-left g c κs within =
     rw c.number-number.ensures
-    (thread-is-left g.N.Naming.numbers c.take-held.result.value.state.value c.args.pass.now.number c.args.pass.now.own c.knows.ensures c.requires.thread.0 c.requires.thread.1
+    (thread-is-left g.N.Naming.numbers c.take-held.result.value.state.value c.args.pass.now.number c.args.pass.now.own c.invariant.ensures c.requires.thread.0 c.requires.thread.1
     c.take-held.ensures.own c.requires.going_on)
 
 pub give-requires-clause-adds : goal.give-requires-clause-adds

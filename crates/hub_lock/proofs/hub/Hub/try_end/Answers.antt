@@ -10,7 +10,7 @@ pub end-ended-requires : goal.end-ended-requires
 end-ended-requires g c = (
   c.type_bounds.send-J,
   λ live. rw (c.actor-actor.ensures, c.number-number.ensures)
-      (may-end-at g.N.Naming.numbers c.args.pass.now c.take-held.result.value.state.value c.args.cut c.knows.ensures c.take-held.ensures.seen c.take-held.ensures.own c.requires.may live),
+      (may-end-at g.N.Naming.numbers c.args.pass.now c.take-held.result.value.state.value c.args.cut c.invariant.ensures c.take-held.ensures.seen c.take-held.ensures.own c.requires.may live),
 )
 
 pub give-requires-clause-adds : goal.give-requires-clause-adds

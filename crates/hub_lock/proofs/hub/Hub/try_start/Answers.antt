@@ -7,13 +7,13 @@ use Rattle.hub_lock.proofs.hub.Hub.try_start.Goals as goal
 pub start-picked-requires-clause-there : goal.start-picked-requires-clause-there
 start-picked-requires-clause-there g c κs within =
     rw (c.worker-worker.ensures, c.number-number.ensures)
-    (worker-is-free g.N.Naming.numbers c.take-held.result.value.state.value c.args.pass.now.number c.args.pass.now.own c.knows.ensures c.requires.worker.0 c.requires.worker.1
+    (worker-is-free g.N.Naming.numbers c.take-held.result.value.state.value c.args.pass.now.number c.args.pass.now.own c.invariant.ensures c.requires.worker.0 c.requires.worker.1
     c.take-held.ensures.own c.requires.idle).0
 
 pub start-picked-requires-clause-free : goal.start-picked-requires-clause-free
 start-picked-requires-clause-free g c κs within =
     rw (c.worker-worker.ensures, c.number-number.ensures)
-    (worker-is-free g.N.Naming.numbers c.take-held.result.value.state.value c.args.pass.now.number c.args.pass.now.own c.knows.ensures c.requires.worker.0 c.requires.worker.1
+    (worker-is-free g.N.Naming.numbers c.take-held.result.value.state.value c.args.pass.now.number c.args.pass.now.own c.invariant.ensures c.requires.worker.0 c.requires.worker.1
     c.take-held.ensures.own c.requires.idle).1
 
 pub give-requires-clause-adds : goal.give-requires-clause-adds

@@ -7,7 +7,7 @@ use Rattle.parts_suite.proofs.tests.hub.worker_ended.Goals as goal
 pub actor_end-requires-after_bounds : goal.actor_end-requires-after_bounds
 actor_end-requires-after_bounds g c κs within = (
   worker-there c.args.state.now.hub c.requires.free,
-  pools-close-at-the-drain _ _ _ _ c.args.state.now.hub c.knows.ensures.led ∙ ap is_past_drain c.requires.drained,
+  pools-close-at-the-drain _ _ _ _ c.args.state.now.hub c.invariant.ensures.led ∙ ap is_past_drain c.requires.drained,
   worker-free c.args.state.now.hub c.requires.free,
   refl,
 )

@@ -26,7 +26,7 @@ thread_call-requires-clause-there g c κs within =
     let live : is_gone_on c.args.hub.now.hub.stage ≡ true = search rules in
     thread-there g.N.Naming.numbers c.args.hub.now
     (record { number = c.self.inside.number; operations = c.self.inside.operations; made = c.self.inside.made; over = c.self.inside.over })
-    c.knows.ensures (subst (λ (u : ThreadSeen). IsThreadOf g.N.Naming.numbers c.args.hub.now u) (sym c.self.view_is) c.requires) c.if-self.false live
+    c.invariant.ensures (subst (λ (u : ThreadSeen). IsThreadOf g.N.Naming.numbers c.args.hub.now u) (sym c.self.view_is) c.requires) c.if-self.false live
 
 waits-no-stop : {s : Status} → tried.Wait ≡ tried.Stop s → ⊥
 waits-no-stop is = cc
@@ -56,7 +56,7 @@ returns-in-Reply-clause-stands g c =
     let t : ThreadSeen = record { number = c.self.inside.number; operations = c.self.inside.operations; made = c.self.inside.made; over = c.self.inside.over } in
     let of : IsThreadOf g.N.Naming.numbers c.args.hub.now t = subst (λ (u : ThreadSeen). IsThreadOf g.N.Naming.numbers c.args.hub.now u) (sym c.self.view_is) c.requires in
     subst (λ (b : Bool). IsThreadOf g.N.Naming.numbers c.thread_call.new.self (record t { made = c.self.inside.made + 1; over = b })) (sym c.if-self.false)
-    (makes-call g.N.Naming.numbers c.args.hub.now c.thread_call.new.self c.self.inside.number c.self.inside.made c.self.inside.operations c.knows.ensures
+    (makes-call g.N.Naming.numbers c.args.hub.now c.thread_call.new.self c.self.inside.number c.self.inside.made c.self.inside.operations c.invariant.ensures
     (subst (λ (b : Bool). IsThreadOf g.N.Naming.numbers c.args.hub.now (record t { over = b })) c.if-self.false of) c.call_of.result c.in-Reply.field-0 (next g at)
     c.in-Reply.ensures.reply)
 

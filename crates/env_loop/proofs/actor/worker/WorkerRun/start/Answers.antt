@@ -13,7 +13,7 @@ start-requires-clause-there g c κs within =
     let w : WorkerSeen = record { number = c.self.inside.number; held = held_in c.self.inside.hands; over = c.self.inside.over } in
     let of : IsWorkerOf g.N.Naming.numbers c.args.hub.now w = subst (λ (u : WorkerSeen). IsWorkerOf g.N.Naming.numbers c.args.hub.now u) (sym c.self.view_is) c.requires.stands in
     let here : c.self.inside.over ≡ false = ap (λ (u : WorkerSeen). u.over) c.self.view_is ∙ c.requires.there in
-    worker-there g.N.Naming.numbers c.args.hub.now w c.knows.ensures of here
+    worker-there g.N.Naming.numbers c.args.hub.now w c.invariant.ensures of here
 
 pub start-requires-clause-free : goal.start-requires-clause-free
 start-requires-clause-free g c κs within =
@@ -21,7 +21,7 @@ start-requires-clause-free g c κs within =
     let of : IsWorkerOf g.N.Naming.numbers c.args.hub.now w = subst (λ (u : WorkerSeen). IsWorkerOf g.N.Naming.numbers c.args.hub.now u) (sym c.self.view_is) c.requires.stands in
     let here : c.self.inside.over ≡ false = ap (λ (u : WorkerSeen). u.over) c.self.view_is ∙ c.requires.there in
     let none : held_in c.self.inside.hands ≡ NoWork = ap (λ (u : WorkerSeen). u.held) c.self.view_is ∙ c.requires.free in
-    worker-free g.N.Naming.numbers c.args.hub.now w c.knows.ensures of here none
+    worker-free g.N.Naming.numbers c.args.hub.now w c.invariant.ensures of here none
 
 pub actor_end-requires-after_bounds : goal.actor_end-requires-after_bounds
 actor_end-requires-after_bounds g c κs within =
@@ -30,9 +30,10 @@ actor_end-requires-after_bounds g c κs within =
     let here : c.self.inside.over ≡ false = ap (λ (u : WorkerSeen). u.over) c.self.view_is ∙ c.requires.there in
     let none : held_in c.self.inside.hands ≡ NoWork = ap (λ (u : WorkerSeen). u.held) c.self.view_is ∙ c.requires.free in
     let same : c.start.new.self ≡ c.args.hub.now = c.in-Closing.ensures.event in (
-      subst (λ (s : HubSeen). IsTrue (is_worker_there s.hub c.self.inside.number)) (sym same) (worker-there g.N.Naming.numbers c.args.hub.now w c.knows.ensures of here),
+      subst (λ (s : HubSeen). IsTrue (is_worker_there s.hub c.self.inside.number)) (sym same)
+          (worker-there g.N.Naming.numbers c.args.hub.now w c.invariant.ensures of here),
       ap (λ (s : HubSeen). s.hub.pool.closing) same ∙ sym c.in-Closing.ensures.closing,
-      ap (λ (s : HubSeen). executed_by s.hub.pool c.self.inside.number) same ∙ worker-free g.N.Naming.numbers c.args.hub.now w c.knows.ensures of here none,
+      ap (λ (s : HubSeen). executed_by s.hub.pool c.self.inside.number) same ∙ worker-free g.N.Naming.numbers c.args.hub.now w c.invariant.ensures of here none,
       refl,
     )
 
@@ -56,7 +57,8 @@ returns-in-Nothing-clause-blocked g c = λ _.
     let here : c.self.inside.over ≡ false = ap (λ (u : WorkerSeen). u.over) c.self.view_is ∙ c.requires.there in
     let none : held_in c.self.inside.hands ≡ NoWork = ap (λ (u : WorkerSeen). u.held) c.self.view_is ∙ c.requires.free in
     subst (λ (u : WorkerSeen). worker_waits c.args.hub.now.hub u.number ≡ true) c.self.view_is
-    (waits-so c.args.hub.now.hub c.self.inside.number (worker-free g.N.Naming.numbers c.args.hub.now w c.knows.ensures of here none) c.in-Nothing.ensures.nothing)
+    (waits-so c.args.hub.now.hub c.self.inside.number
+    (worker-free g.N.Naming.numbers c.args.hub.now w c.invariant.ensures of here none) c.in-Nothing.ensures.nothing)
 
 pub returns-in-Closing-clause-stands : goal.returns-in-Closing-clause-stands
 returns-in-Closing-clause-stands g c =
