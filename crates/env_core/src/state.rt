@@ -334,7 +334,7 @@ impl State {
             | CallGroup::OnFunctions
             | CallGroup::OnEntering
             | CallGroup::OnWorks
-            | CallGroup::OnThreads => unreachable!(),
+            | CallGroup::OnTsfns => unreachable!(),
         }
     }
 

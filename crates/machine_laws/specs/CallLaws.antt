@@ -5,7 +5,7 @@ use Rattle.napi_types.specs.declared.body.Body.TheVariants as body
 use Rattle.napi_types.specs.declared.call.Call.{Call}
 use Rattle.napi_types.specs.declared.call.Call.TheVariants as call
 use Rattle.napi_types.specs.declared.call.CallGroup.{CallGroup}
-use Rattle.napi_types.specs.declared.call.CallGroup.TheVariants.{OnValues, OnProperties, OnFunctions, OnScopes, OnReferences, OnWraps, OnExternals, OnEntering, OnExceptions, OnInstances, OnHooks, OnWorks, OnThreads, OnVersion, OnCollection, OnExit}
+use Rattle.napi_types.specs.declared.call.CallGroup.TheVariants.{OnValues, OnProperties, OnFunctions, OnScopes, OnReferences, OnWraps, OnExternals, OnEntering, OnExceptions, OnInstances, OnHooks, OnWorks, OnTsfns, OnVersion, OnCollection, OnExit}
 use Rattle.napi_types.specs.declared.call.JobSpec.{JobSpec}
 use Rattle.napi_types.specs.declared.call.Mode.{Mode}
 use Rattle.napi_types.specs.declared.entry.Out.TheVariants as out
@@ -47,8 +47,8 @@ pub record RefusesArgument (e : Environment) (c : Call) : Type 0 where
 abbrev pub RefusesUnknownHandles : Type 0
 RefusesUnknownHandles = (e : Environment) (c : Call) (h : ℕ) → has_number h (handles_of c) ≡ true → gives e.heap.scopes h ≡ None → RefusesArgument e c
 
--- the same of each of these calls by itself, whatever the table says of the handles that calls name: of `typeof`, of those on externals, wraps and type tags, and of the
--- one that makes a thread-safe function
+-- the same of each of these calls by itself, whatever the table says of the handles that calls name: of `typeof`, of those on externals, wraps and type tags,
+-- and of the one that makes a thread-safe function
 pub record RefusesUnknownByRow (e : Environment) (h : HandleId) : Type 0 where
   pub typeof : RefusesArgument e (call.Typeof h)
   pub external : RefusesArgument e (call.GetValueExternal h)
@@ -139,14 +139,15 @@ pub record NeedsAndGrowth : Type 0 where
 -- the groups of calls
 abbrev pub every_group : List CallGroup
 every_group =
-    OnValues ∷ OnProperties ∷ OnFunctions ∷ OnScopes ∷ OnReferences ∷ OnWraps ∷ OnExternals ∷ OnEntering ∷ OnExceptions ∷ OnInstances ∷ OnHooks ∷ OnWorks ∷ OnThreads
+    OnValues ∷ OnProperties ∷ OnFunctions ∷ OnScopes ∷ OnReferences ∷ OnWraps ∷ OnExternals ∷ OnEntering ∷ OnExceptions ∷ OnInstances ∷ OnHooks ∷ OnWorks ∷ OnTsfns
     ∷ OnVersion ∷ OnCollection ∷ OnExit ∷ []
 
 -- what each of them says of a call
 abbrev pub groups : Environment → Call → ℕ → List (Option (Answer Environment))
 groups e c n = map (λ g. (call_group g).answers e c n) every_group
 
--- each call that is not shared, but the call of a function, which enters a frame, has a row: exactly one group of calls answers it, and none answers another call
+-- each call that is not shared, but the call of a function, which enters a frame, has a row: exactly one group of calls answers it, and none answers another
+-- call
 abbrev pub EveryCallHasARow : Type 0
 EveryCallHasARow = (e : Environment) (c : Call) (n : ℕ) → length (filter is_some (groups e c n)) ≡ one_if (not (is_shared c) && not (is_calling c))
 

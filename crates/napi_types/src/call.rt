@@ -164,7 +164,7 @@ pub enum CallGroup {
     OnInstances,
     OnHooks,
     OnWorks,
-    OnThreads,
+    OnTsfns,
     OnVersion,
     OnCollection,
     OnExit,
@@ -185,7 +185,7 @@ impl CallGroup {
     pub fn is_shared(self) -> bool
         ensures { result ≡ is_shared_group self }
     {
-        matches!(self, CallGroup::OnWorks | CallGroup::OnThreads)
+        matches!(self, CallGroup::OnWorks | CallGroup::OnTsfns)
     }
 
     /// Whether a call of the group is answered at once: it is neither shared, nor does it enter a frame.
@@ -284,15 +284,15 @@ impl Call {
             }
             Call::QueueAsyncWork(_) => (CallGroup::OnWorks, false, true, 5),
             Call::CreateThreadsafeFunction(_, _, _, _, Some(_), _) => {
-                (CallGroup::OnThreads, false, true, 5)
+                (CallGroup::OnTsfns, false, true, 5)
             }
             Call::CreateThreadsafeFunction(_, _, _, _, None, _)
-            | Call::CallThreadsafeFunction(..) => (CallGroup::OnThreads, false, true, 3),
+            | Call::CallThreadsafeFunction(..) => (CallGroup::OnTsfns, false, true, 3),
             Call::AcquireThreadsafeFunction(_)
             | Call::ReleaseThreadsafeFunction(..)
             | Call::RefThreadsafeFunction(_)
             | Call::UnrefThreadsafeFunction(_)
-            | Call::GetThreadsafeFunctionContext(_) => (CallGroup::OnThreads, false, false, 1),
+            | Call::GetThreadsafeFunctionContext(_) => (CallGroup::OnTsfns, false, false, 1),
             Call::GetVersion => (CallGroup::OnVersion, false, false, 1),
             Call::Collect => (CallGroup::OnCollection, false, false, 1),
             Call::Exit => (CallGroup::OnExit, false, false, 1),

@@ -70,7 +70,7 @@ impl<J: Job> SharedParts<J> {
     {
         match group {
             CallGroup::OnWorks => Ok(Some(self.answer_on_works(given, call)?)),
-            CallGroup::OnThreads => self.answer_on_functions(who, given, call),
+            CallGroup::OnTsfns => self.answer_on_functions(who, given, call),
             _ => unreachable!(),
         }
     }

@@ -10,7 +10,7 @@ use Rattle.napi_types.specs.declared.ids.ScopeKind.{ScopeKind}
 use Rattle.napi_types.specs.declared.status.Status.{Status}
 use Rattle.napi_types.specs.declared.status.Status.TheVariants as status
 use Rattle.napi_types.specs.declared.call.CallGroup.{CallGroup}
-use Rattle.napi_types.specs.declared.call.CallGroup.TheVariants.{OnValues, OnProperties, OnFunctions, OnScopes, OnReferences, OnWraps, OnEntering, OnHooks, OnThreads}
+use Rattle.napi_types.specs.declared.call.CallGroup.TheVariants.{OnValues, OnProperties, OnFunctions, OnScopes, OnReferences, OnWraps, OnEntering, OnHooks, OnTsfns}
 use Rattle.napi_types.specs.plain.CallFacts.{group_of}
 use Rattle.napi_types.specs.plain.Guards.{is_guarded, is_registering}
 use Rattle.napi_types.specs.plain.Lists.{when, unless}
@@ -148,7 +148,7 @@ by-row OnFunctions heap c = by-function_row heap c
 by-row OnScopes heap c = by-scope_row heap c
 by-row OnWraps heap c = by-wrap_row heap c
 by-row OnEntering heap c = by-function_row heap c
-by-row OnThreads heap c = by-function_row heap c
+by-row OnTsfns heap c = by-function_row heap c
 by-row _ heap c = tt
 
 by-attachment : (a : Attachments) (heap : Heap) (c : Call) → Refuses (attachment_refusal a heap c)

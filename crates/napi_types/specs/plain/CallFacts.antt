@@ -4,7 +4,7 @@ use Rattle.std.specs.Prelude.{◌≡◌, ℕ, ◌+◌, Bool, true, false, List, 
 use Rattle.napi_types.specs.declared.call.Call.{Call}
 use Rattle.napi_types.specs.declared.call.Call.TheVariants as call
 use Rattle.napi_types.specs.declared.call.CallGroup.{CallGroup}
-use Rattle.napi_types.specs.declared.call.CallGroup.TheVariants.{OnValues, OnProperties, OnFunctions, OnScopes, OnReferences, OnWraps, OnExternals, OnEntering, OnExceptions, OnInstances, OnHooks, OnWorks, OnThreads, OnVersion, OnCollection, OnExit}
+use Rattle.napi_types.specs.declared.call.CallGroup.TheVariants.{OnValues, OnProperties, OnFunctions, OnScopes, OnReferences, OnWraps, OnExternals, OnEntering, OnExceptions, OnInstances, OnHooks, OnWorks, OnTsfns, OnVersion, OnCollection, OnExit}
 use Rattle.napi_types.specs.declared.call.Facts.{Facts}
 use Rattle.napi_types.specs.declared.ids.HandleId.{HandleId}
 use Rattle.napi_types.specs.declared.ids.TextNo.{TextNo}
@@ -115,13 +115,13 @@ facts_of (call.DeleteAsyncWork _) = in_group OnWorks
 facts_of (call.CancelAsyncWork _) = in_group OnWorks
 facts_of (call.QueueAsyncWork _) = record (in_group OnWorks) { registers = true; need = 3 + duty_places }
 facts_of (call.CreateThreadsafeFunction f _ _ _ finalizer _) =
-    record (in_group OnThreads) { registers = true; grows = true; need = 3 + finalizer_places finalizer; handles = handle_if f }
-facts_of (call.CallThreadsafeFunction _ _ _) = record (in_group OnThreads) { registers = true; grows = true; need = 1 + duty_places }
-facts_of (call.AcquireThreadsafeFunction _) = in_group OnThreads
-facts_of (call.ReleaseThreadsafeFunction _ _) = in_group OnThreads
-facts_of (call.RefThreadsafeFunction _) = in_group OnThreads
-facts_of (call.UnrefThreadsafeFunction _) = in_group OnThreads
-facts_of (call.GetThreadsafeFunctionContext _) = in_group OnThreads
+    record (in_group OnTsfns) { registers = true; grows = true; need = 3 + finalizer_places finalizer; handles = handle_if f }
+facts_of (call.CallThreadsafeFunction _ _ _) = record (in_group OnTsfns) { registers = true; grows = true; need = 1 + duty_places }
+facts_of (call.AcquireThreadsafeFunction _) = in_group OnTsfns
+facts_of (call.ReleaseThreadsafeFunction _ _) = in_group OnTsfns
+facts_of (call.RefThreadsafeFunction _) = in_group OnTsfns
+facts_of (call.UnrefThreadsafeFunction _) = in_group OnTsfns
+facts_of (call.GetThreadsafeFunctionContext _) = in_group OnTsfns
 facts_of call.GetVersion = in_group OnVersion
 facts_of call.Collect = record (in_group OnCollection) { grows = true }
 facts_of call.Exit = in_group OnExit

@@ -2,7 +2,7 @@
 use Rattle.std.specs.Prelude.{Bool, true, false}
 use Rattle.napi_types.specs.declared.call.Call.{Call}
 use Rattle.napi_types.specs.declared.call.CallGroup.{CallGroup}
-use Rattle.napi_types.specs.declared.call.CallGroup.TheVariants.{OnWorks, OnThreads}
+use Rattle.napi_types.specs.declared.call.CallGroup.TheVariants.{OnWorks, OnTsfns}
 use Rattle.napi_types.specs.plain.CallFacts.{facts_of, group_of}
 
 -- a call that could run code of the runtime, and is refused while an exception is pending and in the teardown
@@ -17,7 +17,7 @@ is_registering c = (facts_of c).registers
 -- the groups of the calls on works and on thread-safe functions, whose entries stand in the history
 abbrev pub is_shared_group : CallGroup → Bool
 is_shared_group OnWorks = true
-is_shared_group OnThreads = true
+is_shared_group OnTsfns = true
 is_shared_group _ = false
 
 -- a call of one of them

@@ -26,7 +26,7 @@ impl<J: Job> SharedParts<J> {
         given: &Given,
         call: &Call,
     ) -> Result<Option<Reply>, NoMemory>
-        requires on_functions { group_of call.now ≡ CallGroup.OnThreads }
+        requires on_functions { group_of call.now ≡ CallGroup.OnTsfns }
         requires within { ArePartsWithin self.old }
         requires makeable { IsMakeable given.now call.now }
         ensures ok { IfOk result (λ reply. AnswersOrWaits self.old who given.now call.now reply self.new) }
