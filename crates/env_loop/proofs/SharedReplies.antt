@@ -25,7 +25,7 @@ use Rattle.napi_types.specs.environment.Environment.{Environment}
 use Rattle.napi_types.specs.environment.SharedCalls.{shared_call_of, handed_entry, after_shared}
 use Rattle.napi_types.specs.hub.GivenSteps.{is_timely, is_fresh_work, work_number, answer_unless_given}
 use Rattle.napi_types.specs.hub.Hub.{Hub}
-use Rattle.napi_types.specs.hub.HubCalls.{hub_answer, unless_refused, on_function, function_at, call_answer, called_answer}
+use Rattle.napi_types.specs.hub.HubCalls.{hub_answer, unless_refused, on_function, tsfn_at, call_answer, called_answer}
 use Rattle.napi_types.specs.hub.HubStep.{HubStep, answered_step}
 use Rattle.napi_types.specs.hub.HubSteps.{IsHubNext, hub_step}
 use Rattle.napi_types.specs.runs.CallRoom.{room_of}
@@ -65,12 +65,12 @@ answer-unframed h g (call.DeleteAsyncWork w) n = unless-unframed h (work_refusal
 answer-unframed h g (call.CancelAsyncWork w) n = unless-unframed h (work_refusal is_queued h.pool w.0) _ refl
 answer-unframed h g (call.QueueAsyncWork w) n = unless-unframed h (work_refusal is_created h.pool w.0) _ refl
 answer-unframed h g (call.CreateThreadsafeFunction f entry maximum count finalizer context) n = refl
-answer-unframed h g (call.CallThreadsafeFunction f payload m) n = called-unframed h payload m (function_at h f.0)
-answer-unframed h g (call.AcquireThreadsafeFunction f) n = on-unframed h _ (function_at h f.0) (λ x. refl)
-answer-unframed h g (call.ReleaseThreadsafeFunction f m) n = on-unframed h _ (function_at h f.0) (λ x. refl)
-answer-unframed h g (call.RefThreadsafeFunction f) n = on-unframed h _ (function_at h f.0) (λ x. refl)
-answer-unframed h g (call.UnrefThreadsafeFunction f) n = on-unframed h _ (function_at h f.0) (λ x. refl)
-answer-unframed h g (call.GetThreadsafeFunctionContext f) n = on-unframed h _ (function_at h f.0) (λ x. refl)
+answer-unframed h g (call.CallThreadsafeFunction f payload m) n = called-unframed h payload m (tsfn_at h f.0)
+answer-unframed h g (call.AcquireThreadsafeFunction f) n = on-unframed h _ (tsfn_at h f.0) (λ x. refl)
+answer-unframed h g (call.ReleaseThreadsafeFunction f m) n = on-unframed h _ (tsfn_at h f.0) (λ x. refl)
+answer-unframed h g (call.RefThreadsafeFunction f) n = on-unframed h _ (tsfn_at h f.0) (λ x. refl)
+answer-unframed h g (call.UnrefThreadsafeFunction f) n = on-unframed h _ (tsfn_at h f.0) (λ x. refl)
+answer-unframed h g (call.GetThreadsafeFunctionContext f) n = on-unframed h _ (tsfn_at h f.0) (λ x. refl)
 answer-unframed h g _ n = tt
 
 unless-given-unframed : (h : Hub) (g : Given) (c : Call) (n : ℕ) (s : Option Status) → Unframed (answer_unless_given h g c n s)

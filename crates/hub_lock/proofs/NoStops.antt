@@ -12,7 +12,7 @@ use Rattle.napi_types.specs.plain.Lists.{one, when}
 use Rattle.napi_types.specs.plain.Replies.{Answer}
 use Rattle.napi_types.specs.parts.Functions.{FunctionState, is_open, is_full_queue, is_blocking, most_threads}
 use Rattle.napi_types.specs.hub.Hub.{Hub, new_hub}
-use Rattle.napi_types.specs.hub.HubCalls.{function_at, call_answer, called_answer, hub_answer, is_thread_call}
+use Rattle.napi_types.specs.hub.HubCalls.{tsfn_at, call_answer, called_answer, hub_answer, is_thread_call}
 use Rattle.napi_types.specs.hub.HubStep.{answered_step}
 use Rattle.napi_types.specs.hub.HubSteps.{IsHubNext, hub_along}
 use Rattle.napi_types.specs.hub.ThreadSteps.{is_thread_there, nothing_given}
@@ -49,19 +49,19 @@ released-no-stop true = refl
 released-no-stop false = refl
 
 answer-no-stop : (h : Hub) (who : Actor) (c : Call) → is_thread_call c ≡ true → IfNoStop (hub_answer h who nothing_given c 0)
-answer-no-stop h who (call.CallThreadsafeFunction f payload m) kind = by (function_at h f.0)
+answer-no-stop h who (call.CallThreadsafeFunction f payload m) kind = by (tsfn_at h f.0)
   where
     by : (o : Option FunctionState) → IfNoStop (call_answer h who payload m o)
     by None = refl
     by (Some x) = told-no-stop h payload x (x.count == 0) (not (is_open x.state)) (is_full_queue x) (is_blocking m) (is_environment who)
-answer-no-stop h who (call.AcquireThreadsafeFunction f) kind = by (function_at h f.0) refl
+answer-no-stop h who (call.AcquireThreadsafeFunction f) kind = by (tsfn_at h f.0) refl
   where
-    by : (o : Option FunctionState) → function_at h f.0 ≡ o → IfNoStop (hub_answer h who nothing_given (call.AcquireThreadsafeFunction f) 0)
+    by : (o : Option FunctionState) → tsfn_at h f.0 ≡ o → IfNoStop (hub_answer h who nothing_given (call.AcquireThreadsafeFunction f) 0)
     by None is = rw is refl
     by (Some x) is = rw is (acquired-no-stop (not (is_open x.state)) (x.count == 0) (x.count == most_threads))
-answer-no-stop h who (call.ReleaseThreadsafeFunction f m) kind = by (function_at h f.0) refl
+answer-no-stop h who (call.ReleaseThreadsafeFunction f m) kind = by (tsfn_at h f.0) refl
   where
-    by : (o : Option FunctionState) → function_at h f.0 ≡ o → IfNoStop (hub_answer h who nothing_given (call.ReleaseThreadsafeFunction f m) 0)
+    by : (o : Option FunctionState) → tsfn_at h f.0 ≡ o → IfNoStop (hub_answer h who nothing_given (call.ReleaseThreadsafeFunction f m) 0)
     by None is = rw is refl
     by (Some x) is = rw is (released-no-stop (x.count == 0))
 answer-no-stop h who _ kind = cc

@@ -52,23 +52,23 @@ abbrev pub scripts : List (List Op)
 scripts = operations ∷ []
 
 -- the function of a number, its creation with a context, and its first item
-abbrev pub function_at : ℕ → TsfnId
-function_at f = record { 0 = f }
+abbrev pub tsfn_at : ℕ → TsfnId
+tsfn_at f = record { 0 = f }
 
 abbrev pub created : ℕ → ℕ → ℕ → Entry
 created n f context =
-    shared_replied n (call.CreateThreadsafeFunction None (Some 1) 0 1 None context) (Some (target_at 1)) (plain status.Ok (out.Function (function_at f)))
+    shared_replied n (call.CreateThreadsafeFunction None (Some 1) 0 1 None context) (Some (target_at 1)) (plain status.Ok (out.Function (tsfn_at f)))
 
 abbrev pub first_item : ℕ → Option Duty
-first_item f = Some (duty.Item (function_at f) 1)
+first_item f = Some (duty.Item (tsfn_at f) 1)
 
 -- the thread's release, its operation of this number
 abbrev pub released : ℕ → Entry
-released n = by_thread 0 n (call.ReleaseThreadsafeFunction (function_at 2) release.Release) status.Ok None
+released n = by_thread 0 n (call.ReleaseThreadsafeFunction (tsfn_at 2) release.Release) status.Ok None
 
 -- an event of the function of a number
 abbrev pub function_told : HostStep → ℕ → Entry
-function_told event f = host_entry event (out.Function (function_at f))
+function_told event f = host_entry event (out.Function (tsfn_at f))
 
 -- the history
 abbrev pub history : List Entry
@@ -76,11 +76,11 @@ history =
     shared_refused 0 (call.CreateThreadsafeFunction None None 0 1 None 4) status.InvalidArg
     ∷ created 1 1 5
     ∷ created 2 2 6
-    ∷ shared_making 3 (call.CallThreadsafeFunction (function_at 2) 20 mode.Nonblocking) status.Ok (first_item 2)
-    ∷ shared_making 4 (call.CallThreadsafeFunction (function_at 1) 10 mode.Nonblocking) status.Ok (first_item 1)
-    ∷ shared_at 5 (call.UnrefThreadsafeFunction (function_at 1)) status.Ok
-    ∷ shared_at 6 (call.AcquireThreadsafeFunction (function_at 2)) status.Ok
-    ∷ shared_replied 7 (call.GetThreadsafeFunctionContext (function_at 2)) None (plain status.Ok (out.Unsigned 6))
+    ∷ shared_making 3 (call.CallThreadsafeFunction (tsfn_at 2) 20 mode.Nonblocking) status.Ok (first_item 2)
+    ∷ shared_making 4 (call.CallThreadsafeFunction (tsfn_at 1) 10 mode.Nonblocking) status.Ok (first_item 1)
+    ∷ shared_at 5 (call.UnrefThreadsafeFunction (tsfn_at 1)) status.Ok
+    ∷ shared_at 6 (call.AcquireThreadsafeFunction (tsfn_at 2)) status.Ok
+    ∷ shared_replied 7 (call.GetThreadsafeFunctionContext (tsfn_at 2)) None (plain status.Ok (out.Unsigned 6))
     ∷ go_entry
     ∷ runs_empty (begins cause.Item 1 (first_item 1))
     ++ runs_empty (begins cause.Item 1 (first_item 2))

@@ -16,7 +16,7 @@ use Rattle.napi_types.specs.plain.Replies.{plain}
 use Rattle.napi_types.specs.parts.Functions.{FunctionState, accepted_items, call_status, called}
 use Rattle.napi_types.specs.hub.Hub.{Hub}
 use Rattle.napi_types.specs.hub.HubCalls.{hub_answer, call_answer, called_answer, item_made}
-use Rattle.napi_types.specs.hub.HubMoves.{in_function}
+use Rattle.napi_types.specs.hub.HubMoves.{in_tsfn}
 use Rattle.napi_types.proofs.plain.Found.{found-number}
 use Rattle.tsfn.specs.FunctionList.{function_numbered, with_function_changed, changed_there, tried_there}
 use Rattle.tsfn.specs.Trials.{tried_of}
@@ -42,7 +42,11 @@ module _ (old new : HubParts) (who : Actor) (g : Given) (id : TsfnId) (payload :
         ≡ Some (record { reply = record { status = s; out = out.Nothing; dropped = None; made = made }; after = hub_with new h })
     answers s h is left made same =
         ap (call_answer (hub_with old h) who payload m) there ∙ ap (option_map (called_answer (hub_with old h) payload f)) is
-        ∙ ap (λ d. Some (record { reply = record { status = s; out = out.Nothing; dropped = None; made = d }; after = in_function f.id (called (Some s) payload) (hub_with old h) })) same
+        ∙ ap (λ d. Some (record {
+          reply = record { status = s; out = out.Nothing; dropped = None; made = d };
+          after = in_tsfn f.id (called (Some s) payload)
+              (hub_with old h);
+        })) same
         ∙ ap (λ (p : HubParts). Some (record { reply = record { status = s; out = out.Nothing; dropped = None; made = made }; after = hub_with p h })) (sym left)
 
     numbered : (duty.Item (record { 0 = f.id }) (accepted_items f + 1)) ≡ duty.Item id (accepted_items f + 1)

@@ -23,7 +23,7 @@ use Rattle.napi_types.specs.parts.Works.{Work}
 use Rattle.napi_types.specs.hub.HistoryLaws.{KeepsStanding}
 use Rattle.napi_types.specs.hub.Hub.{Hub, Before, Going, Looped, Drained, stage_after}
 use Rattle.napi_types.specs.hub.HubEvents.{staged, drained_hub, may_move, is_moving, delivery_entry, begin_step, close_step, finish_step, frame_end_step, is_frame_end}
-use Rattle.napi_types.specs.hub.HubMoves.{HubMove, Delivers, Closes, Finishes, hub_move, in_function, in_pool, with_delivered, without_duty}
+use Rattle.napi_types.specs.hub.HubMoves.{HubMove, Delivers, Closes, Finishes, hub_move, in_tsfn, in_pool, with_delivered, without_duty}
 use Rattle.napi_types.specs.hub.HubStep.{actor_told}
 use Rattle.napi_types.specs.hub.ThreadSteps.{is_thread_end, is_gone_on}
 use Rattle.napi_types.specs.hub.WorkerSteps.{is_worker_there, start_step, work_end_step}
@@ -110,14 +110,18 @@ pub delivery-comes : (h : Hub) (d : DueInfo) → hub_move h ≡ Some (Delivers d
 delivery-comes h d is may =
     comes-by h (delivery_entry d) (record { entry = delivery_entry d; after = with_delivered d h; may = may_move h }) (ap (begin_step h (delivery_entry d)) is) refl may
 
-pub close-comes : (h : Hub) (f : TsfnId) → hub_move h ≡ Some (Closes f.0) → IsTrue (may_move h) → ComesNext h (host_entry host.CloseTsfn (out.Function f)) (in_function f.0 closed h)
+pub close-comes : (h : Hub) (f : TsfnId) → hub_move h ≡ Some (Closes f.0) → IsTrue (may_move h)
+    → ComesNext h (host_entry host.CloseTsfn (out.Function f)) (in_tsfn f.0 closed h)
 close-comes h f is may =
-    comes-by h (host_entry host.CloseTsfn (out.Function f)) (record { entry = host_entry host.CloseTsfn (out.Function f); after = in_function f.0 closed h; may = may_move h })
+    comes-by h (host_entry host.CloseTsfn (out.Function f))
+    (record { entry = host_entry host.CloseTsfn (out.Function f); after = in_tsfn f.0 closed h; may = may_move h })
     (ap (close_step h (host_entry host.CloseTsfn (out.Function f))) is) refl may
 
-pub finish-comes : (h : Hub) (f : TsfnId) → hub_move h ≡ Some (Finishes f.0) → IsTrue (may_move h) → ComesNext h (host_entry host.FinishTsfn (out.Function f)) (in_function f.0 finished h)
+pub finish-comes : (h : Hub) (f : TsfnId) → hub_move h ≡ Some (Finishes f.0) → IsTrue (may_move h)
+    → ComesNext h (host_entry host.FinishTsfn (out.Function f)) (in_tsfn f.0 finished h)
 finish-comes h f is may =
-    comes-by h (host_entry host.FinishTsfn (out.Function f)) (record { entry = host_entry host.FinishTsfn (out.Function f); after = in_function f.0 finished h; may = may_move h })
+    comes-by h (host_entry host.FinishTsfn (out.Function f))
+    (record { entry = host_entry host.FinishTsfn (out.Function f); after = in_tsfn f.0 finished h; may = may_move h })
     (ap (finish_step h (host_entry host.FinishTsfn (out.Function f))) is) refl may
 
 -- what a move leaves, by what it leaves of works and functions

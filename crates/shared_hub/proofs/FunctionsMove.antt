@@ -9,7 +9,7 @@ use Rattle.napi_types.specs.declared.entry.TsfnState.TheVariants.{Open, Closing,
 use Rattle.napi_types.specs.parts.Functions.{FunctionState}
 use Rattle.napi_types.specs.parts.Pool.{WorkPool}
 use Rattle.napi_types.specs.hub.Hub.{Hub}
-use Rattle.napi_types.specs.hub.HubMoves.{HubMove, Delivers, Closes, Finishes, function_move_in, function_move, first_move}
+use Rattle.napi_types.specs.hub.HubMoves.{HubMove, Delivers, Closes, Finishes, tsfn_move_in, tsfn_move, first_move}
 use Rattle.tsfn.specs.FunctionList.{functions_after_move}
 use Rattle.shared_hub.specs.HubParts.{HubParts, hub_with, after_move}
 use Rattle.shared_hub.specs.HubTries.{unspent_of_duty, unspent_job}
@@ -23,7 +23,7 @@ abbrev DeliversOwn : HubMove → Type 0
 DeliversOwn (Delivers d) = IsOfFunction d.duty
 DeliversOwn _ = Unit {0}
 
-function-delivers : (f : FunctionState) (s : TsfnState) (items : List ℕ) → IfSome (function_move_in f s items) DeliversOwn
+function-delivers : (f : FunctionState) (s : TsfnState) (items : List ℕ) → IfSome (tsfn_move_in f s items) DeliversOwn
 function-delivers f Open [] = by (f.count == 0)
   where
     by : (b : Bool) → IfSome (cond b (Some (Closes f.id)) None) DeliversOwn
@@ -37,7 +37,7 @@ function-delivers f Done items = tt
 
 first-delivers : (fs : List FunctionState) → IfSome (first_move fs) DeliversOwn
 first-delivers [] = tt
-first-delivers (f ∷ fs) = by (function_move f) (function-delivers f f.state f.items) (first-delivers fs)
+first-delivers (f ∷ fs) = by (tsfn_move f) (function-delivers f f.state f.items) (first-delivers fs)
   where
     by : (o : Option HubMove) → IfSome o DeliversOwn → IfSome (first_move fs) DeliversOwn → IfSome (option_or o (first_move fs)) DeliversOwn
     by None here later = later

@@ -21,7 +21,7 @@ use Rattle.napi_types.specs.parts.Pool.{WorkPool}
 use Rattle.napi_types.specs.hub.GivenSteps.{is_looped, is_timely, is_fresh_work, work_number, answer_unless_given}
 use Rattle.napi_types.specs.hub.HistoryRoom.{reserved_history}
 use Rattle.napi_types.specs.hub.Hub.{Hub, Stage, Before, Going, Looped, Drained, Final, new_hub, is_past_drain}
-use Rattle.napi_types.specs.hub.HubCalls.{hub_answer, function_at, call_answer, called_answer, is_thread_call}
+use Rattle.napi_types.specs.hub.HubCalls.{hub_answer, tsfn_at, call_answer, called_answer, is_thread_call}
 use Rattle.napi_types.specs.hub.HubStep.{answered_step}
 use Rattle.napi_types.specs.hub.ThreadSteps.{is_thread_there, nothing_given}
 use Rattle.napi_types.proofs.plain.Conditions.{and-both}
@@ -130,7 +130,8 @@ env-never-waits old new g c shared waits = by c shared (waits.none (new_hub 0 0)
     by (call.CancelAsyncWork w) shared none = cc
     by (call.QueueAsyncWork w) shared none = cc
     by (call.CreateThreadsafeFunction f entry maximum count finalizer context) shared none = cc
-    by (call.CallThreadsafeFunction f payload m) shared none = never-waits (hub_with old (new_hub 0 0)) payload m (function_at (hub_with old (new_hub 0 0)) f.0) none
+    by (call.CallThreadsafeFunction f payload m) shared none = never-waits (hub_with old (new_hub 0 0)) payload m
+        (tsfn_at (hub_with old (new_hub 0 0)) f.0) none
     by (call.AcquireThreadsafeFunction f) shared none = cc
     by (call.ReleaseThreadsafeFunction f m) shared none = cc
     by (call.RefThreadsafeFunction f) shared none = cc

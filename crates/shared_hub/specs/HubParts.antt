@@ -15,7 +15,7 @@ use Rattle.napi_types.specs.hub.GivenSteps.{is_fresh_work, work_number}
 use Rattle.napi_types.specs.hub.HistoryRoom.{work_places, function_places}
 use Rattle.napi_types.specs.hub.Hub.{Hub}
 use Rattle.napi_types.specs.hub.HubCalls.{hub_answer}
-use Rattle.napi_types.specs.hub.HubMoves.{HubMove, Delivers, Closes, Finishes, in_function, without_duty}
+use Rattle.napi_types.specs.hub.HubMoves.{HubMove, Delivers, Closes, Finishes, in_tsfn, without_duty}
 
 pub record HubParts : Type 0 where
   pub pool : WorkPool
@@ -86,8 +86,8 @@ WouldAccept h who g c = (n : ℕ) → IsAcceptance (hub_answer h who g c n)
 abbrev pub after_move : Option HubMove → Hub → Hub
 after_move None h = h
 after_move (Some (Delivers d)) h = without_duty d.duty h
-after_move (Some (Closes n)) h = in_function n closed h
-after_move (Some (Finishes n)) h = in_function n finished h
+after_move (Some (Closes n)) h = in_tsfn n closed h
+after_move (Some (Finishes n)) h = in_tsfn n finished h
 
 -- what the drain leaves
 abbrev pub drained_parts : HubParts → HubParts

@@ -108,7 +108,7 @@ impl<J: Job> SharedParts<J> {
         if self.pool.has_finished() {
             self.take_completion()
         } else {
-            self.take_function_move()
+            self.take_tsfn_move()
         }
     }
 
@@ -126,7 +126,7 @@ impl<J: Job> SharedParts<J> {
     }
 
     /// The function with the lowest number that has something to do does it. `Nothing` exactly where none has, and nothing changes.
-    fn take_function_move(&mut self) -> Polled<J>
+    fn take_tsfn_move(&mut self) -> Polled<J>
         ensures told { polled_move result ≡ first_move self.old.functions }
         ensures left { (h : Hub) → hub_with self.new h ≡ after_move (polled_move result) (hub_with self.old h) }
         ensures unspent { IfBegun result (λ due job. option_map J.spec job ≡ unspent_job self.old.pool due) }

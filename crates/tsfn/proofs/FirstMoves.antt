@@ -5,7 +5,7 @@ use Rattle.std.proofs.lemmas.List.{set-get_or, length-map, get_or-map}
 use Rattle.napi_types.specs.declared.entry.TsfnState.{TsfnState}
 use Rattle.napi_types.specs.declared.entry.TsfnState.TheVariants.{Open, Closing, Finished, Done}
 use Rattle.napi_types.specs.parts.Functions.{FunctionState, first_taken, closed, finished, done}
-use Rattle.napi_types.specs.hub.HubMoves.{HubMove, Closes, function_move_in, function_move, first_move}
+use Rattle.napi_types.specs.hub.HubMoves.{HubMove, Closes, tsfn_move_in, tsfn_move, first_move}
 use Rattle.tsfn.specs.BusyPlaces.{is_busy_at, IsLowestBusy, NoneIsBusy}
 use Rattle.tsfn.specs.FunctionList.{with_function_changed, functions_after_move}
 use Rattle.tsfn.specs.FunctionMoves.{is_busy, moved_by}
@@ -22,11 +22,11 @@ then-later None p idle = refl
 then-later (Some m) p idle = absurd (idle refl)
 
 first-at : (fs : List FunctionState) (i : ℕ) (d : FunctionState) → i < length fs → is_busy (get_or fs i d) ≡ true
-    → ((n : ℕ) → is_busy_at (map is_busy fs) n ≡ true → i ≤ n) → first_move fs ≡ function_move (get_or fs i d)
+    → ((n : ℕ) → is_busy_at (map is_busy fs) n ≡ true → i ≤ n) → first_move fs ≡ tsfn_move (get_or fs i d)
 first-at [] i d within is lowest = absurd (omega (arith, within))
-first-at (f ∷ fs) zero d within is lowest = here-first (function_move f) (first_move fs) is
+first-at (f ∷ fs) zero d within is lowest = here-first (tsfn_move f) (first_move fs) is
 first-at (f ∷ fs) (suc i) d within is lowest =
-    then-later (function_move f) (first_move fs) (λ busy. omega (arith, lowest 0 busy))
+    then-later (tsfn_move f) (first_move fs) (λ busy. omega (arith, lowest 0 busy))
     ∙ first-at fs i d (less (length fs) within) is (λ n busy. omega (arith, lowest (suc n) busy))
   where
     less : (l : ℕ) → suc i < suc l → i < l
@@ -35,19 +35,19 @@ first-at (f ∷ fs) (suc i) d within is lowest =
 pub first-none : (fs : List FunctionState) → NoneIsBusy (map is_busy fs) → first_move fs ≡ None
 first-none [] idle = refl
 first-none (f ∷ fs) idle =
-    then-later (function_move f) (first_move fs) (λ busy. let no : true ≡ false = sym busy ∙ idle 0 in cc)
+    then-later (tsfn_move f) (first_move fs) (λ busy. let no : true ≡ false = sym busy ∙ idle 0 in cc)
     ∙ first-none fs (λ n. idle (suc n))
 
 -- the lowest place that is busy has the function that moves first
 pub record MovesFirst (fs : List FunctionState) (i : ℕ) (f : FunctionState) : Type 0 where
   pub within : i < length fs
-  pub move : first_move fs ≡ function_move f
+  pub move : first_move fs ≡ tsfn_move f
 
 pub moves-first : (fs : List FunctionState) (i : ℕ) (f : FunctionState) → f ≡ get_or fs i f → IsLowestBusy (map is_busy fs) i → MovesFirst fs i f
 moves-first fs i f here lowest =
     let within : i < length fs = let in_busy = lowest.within in omega (arith, in_busy, length-map fs is_busy) in
     let is : is_busy (get_or fs i f) ≡ true = sym (get_or-map is_busy fs i f false within) ∙ lowest.is in
-    record { within = within; move = first-at fs i f within is lowest.lowest ∙ ap function_move (sym here) }
+    record { within = within; move = first-at fs i f within is lowest.lowest ∙ ap tsfn_move (sym here) }
 
 -- so there is a move exactly where a place is busy
 pub busy-move : (fs : List FunctionState) (lowest : Option ℕ) → IfSome lowest (λ i. IsLowestBusy (map is_busy fs) i) → IfNone lowest (NoneIsBusy (map is_busy fs))
@@ -69,10 +69,10 @@ module _ (fs : List FunctionState) (i : ℕ) (f : FunctionState) (numbered : Are
   same : fs ≡ set fs i f
   same = sym (ap (λ (g : FunctionState). set fs i g) here ∙ set-get_or fs i f)
 
-  pub moved-at : functions_after_move (function_move f) fs ≡ set fs i (moved_by (function_move f) f)
+  pub moved-at : functions_after_move (tsfn_move f) fs ≡ set fs i (moved_by (tsfn_move f) f)
   moved-at = by f.state f.items
     where
-      by : (s : TsfnState) (items : List ℕ) → functions_after_move (function_move_in f s items) fs ≡ set fs i (moved_by (function_move_in f s items) f)
+      by : (s : TsfnState) (items : List ℕ) → functions_after_move (tsfn_move_in f s items) fs ≡ set fs i (moved_by (tsfn_move_in f s items) f)
       by Open [] = case (f.count == 0)
         where
           case : (b : Bool) → functions_after_move (cond b (Some (Closes f.id)) None) fs ≡ set fs i (moved_by (cond b (Some (Closes f.id)) None) f)

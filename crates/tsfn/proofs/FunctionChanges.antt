@@ -10,7 +10,7 @@ use Rattle.napi_types.specs.declared.status.Status.TheVariants as status
 use Rattle.napi_types.specs.plain.Lists.{head, tail, one}
 use Rattle.napi_types.specs.parts.Functions.{FunctionState, is_open, called, most_threads, acquire_status, acquired, released, closed_state, closed, with_referenced, with_item_taken, first_taken}
 use Rattle.napi_types.specs.hub.HistoryRoom.{state_places, function_places}
-use Rattle.napi_types.specs.hub.HubMoves.{Closes, function_move_in, function_move}
+use Rattle.napi_types.specs.hub.HubMoves.{Closes, tsfn_move_in, tsfn_move}
 use Rattle.napi_types.proofs.hub.HubFunctions.{closed-le}
 use Rattle.tsfn.specs.FunctionMoves.{is_busy, moved_by}
 
@@ -25,7 +25,8 @@ same-change more f = record { id = refl; places = omega arith; busy = λ is. is 
 
 -- WHAT A FUNCTION HAS TO DO
 -- with an item more
-busy-longer : (f g : FunctionState) (payload : ℕ) (s : TsfnState) (items : List ℕ) → is_some (function_move_in f s items) ≡ true → is_some (function_move_in g s (items ++ one payload)) ≡ true
+busy-longer : (f g : FunctionState) (payload : ℕ) (s : TsfnState) (items : List ℕ) → is_some (tsfn_move_in f s items) ≡ true
+    → is_some (tsfn_move_in g s (items ++ one payload)) ≡ true
 busy-longer f g payload Open [] is = refl
 busy-longer f g payload Open (p ∷ items) is = refl
 busy-longer f g payload Closing [] is = refl
@@ -34,7 +35,8 @@ busy-longer f g payload Finished items is = refl
 busy-longer f g payload Done items is = cc
 
 -- held by no more threads
-busy-fewer : (f g : FunctionState) (s : TsfnState) (items : List ℕ) → ((f.count == 0) ≡ true → (g.count == 0) ≡ true) → is_some (function_move_in f s items) ≡ true → is_some (function_move_in g s items) ≡ true
+busy-fewer : (f g : FunctionState) (s : TsfnState) (items : List ℕ) → ((f.count == 0) ≡ true → (g.count == 0) ≡ true)
+    → is_some (tsfn_move_in f s items) ≡ true → is_some (tsfn_move_in g s items) ≡ true
 busy-fewer f g Open [] fewer is = by (f.count == 0) fewer is
   where
     by : (b : Bool) → (b ≡ true → (g.count == 0) ≡ true) → is_some (cond b (Some (Closes f.id)) None) ≡ true → is_some (cond (g.count == 0) (Some (Closes g.id)) None) ≡ true
@@ -47,7 +49,8 @@ busy-fewer f g Finished items fewer is = refl
 busy-fewer f g Done items fewer is = cc
 
 -- closing
-busy-closed : (f g : FunctionState) (s : TsfnState) (items : List ℕ) → is_some (function_move_in f s items) ≡ true → is_some (function_move_in g (closed_state s) items) ≡ true
+busy-closed : (f g : FunctionState) (s : TsfnState) (items : List ℕ) → is_some (tsfn_move_in f s items) ≡ true
+    → is_some (tsfn_move_in g (closed_state s) items) ≡ true
 busy-closed f g Open [] is = refl
 busy-closed f g Open (p ∷ items) is = refl
 busy-closed f g Closing [] is = refl
@@ -81,7 +84,7 @@ acquired-busy f is busy = by f.state f.items (f.count == 0) refl is busy
   where
     by : (s : TsfnState) (items : List ℕ) (none : Bool) → (f.count == 0) ≡ none
         → cond (not (is_open s)) status.Closing (cond none status.InvalidArg (cond (f.count == most_threads) status.GenericFailure status.Ok)) ≡ status.Ok
-        → is_some (function_move_in f s items) ≡ true → is_some (function_move_in (acquired status.Ok f) s items) ≡ true
+        → is_some (tsfn_move_in f s items) ≡ true → is_some (tsfn_move_in (acquired status.Ok f) s items) ≡ true
     by Open [] true tests is busy = cc
     by Open [] false tests is busy = let no : false ≡ true = ap (λ b. is_some (cond b (Some (Closes f.id)) None)) (sym tests) ∙ busy in cc
     by Open (p ∷ items) none tests is busy = refl
@@ -138,13 +141,13 @@ finished-places : (o : Option ℕ) → state_places o (cond (is_some o) Finished
 finished-places None = omega arith
 finished-places (Some entry) = omega arith
 
-pub moved-keeps : (f : FunctionState) → IsMoved f (moved_by (function_move f) f)
+pub moved-keeps : (f : FunctionState) → IsMoved f (moved_by (tsfn_move f) f)
 moved-keeps f = by f.state f.items refl refl
   where
     same : IsMoved f f
     same = record { id = refl; places = omega arith }
 
-    by : (s : TsfnState) (items : List ℕ) → f.state ≡ s → f.items ≡ items → IsMoved f (moved_by (function_move_in f s items) f)
+    by : (s : TsfnState) (items : List ℕ) → f.state ≡ s → f.items ≡ items → IsMoved f (moved_by (tsfn_move_in f s items) f)
     by Open [] is empty = case (f.count == 0)
       where
         case : (b : Bool) → IsMoved f (moved_by (cond b (Some (Closes f.id)) None) f)

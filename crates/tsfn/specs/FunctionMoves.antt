@@ -3,7 +3,7 @@ use Rattle.std.specs.Prelude.{Bool, Option, Some, None, is_some}
 use Rattle.napi_types.specs.declared.entry.Duty.{Duty}
 use Rattle.napi_types.specs.declared.entry.Duty.TheVariants as duty
 use Rattle.napi_types.specs.parts.Functions.{FunctionState, first_taken, closed, finished, done}
-use Rattle.napi_types.specs.hub.HubMoves.{HubMove, Delivers, Closes, Finishes, function_move}
+use Rattle.napi_types.specs.hub.HubMoves.{HubMove, Delivers, Closes, Finishes, tsfn_move}
 use Rattle.tsfn.specs.declared.function.Moved.{Moved}
 use Rattle.tsfn.specs.declared.function.Moved.TheVariants as moved
 
@@ -15,7 +15,7 @@ move_of (moved.Finishes id) = Finishes id.0
 
 -- a function has something to do
 abbrev pub is_busy : FunctionState → Bool
-is_busy f = is_some (function_move f)
+is_busy f = is_some (tsfn_move f)
 
 -- a function as the frame of its duty begins: an item is taken out, and after its finalizer it is done
 abbrev pub with_begun : Duty → FunctionState → FunctionState

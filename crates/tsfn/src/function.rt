@@ -2,7 +2,7 @@
 ghost use Rattle.std.specs.Prelude.{◌≡◌, ◌+◌, ◌<◌, ◌^◌, [], true, false, length, Some, IfOk, OnOk, OnErr, option_map};
 ghost use Rattle.std.specs.Option.{is_some};
 ghost use Rattle.napi_types.specs.hub.HistoryRoom.{function_places};
-ghost use Rattle.napi_types.specs.hub.HubMoves.{function_move};
+ghost use Rattle.napi_types.specs.hub.HubMoves.{tsfn_move};
 ghost use Rattle.napi_types.specs.plain.Lists.{head};
 ghost use Rattle.napi_types.specs.parts.Functions.{new_function, is_full_queue, accepted_items, call_status, called, acquire_status, acquired, release_status, released, closed, with_referenced, item_info, torn_info, first_taken, finished, function_info, done};
 ghost use Rattle.tsfn.specs.FunctionMoves.{move_of, moved_by, is_busy};
@@ -284,8 +284,8 @@ impl Tsfn {
     ///
     /// Constant time. It takes no memory.
     pub fn take_move(&mut self) -> Option<Moved>
-        ensures told { option_map move_of result ≡ function_move self.old }
-        ensures left { self.new ≡ moved_by (function_move self.old) self.old }
+        ensures told { option_map move_of result ≡ tsfn_move self.old }
+        ensures left { self.new ≡ moved_by (tsfn_move self.old) self.old }
     {
         match self.state {
             TsfnState::Open => self.move_open(),
@@ -366,8 +366,8 @@ impl Tsfn {
     /// The move of an open function, where it has one.
     fn move_open(&mut self) -> Option<Moved>
         requires { self.old.state ≡ TsfnState.Open }
-        ensures told { option_map move_of result ≡ function_move self.old }
-        ensures left { self.new ≡ moved_by (function_move self.old) self.old }
+        ensures told { option_map move_of result ≡ tsfn_move self.old }
+        ensures left { self.new ≡ moved_by (tsfn_move self.old) self.old }
     {
         if let Some(due) = self.pop() {
             return Some(Moved::Delivers(due));
@@ -382,8 +382,8 @@ impl Tsfn {
     /// The move of a closing function.
     fn move_closing(&mut self) -> Moved
         requires { self.old.state ≡ TsfnState.Closing }
-        ensures told { Some (move_of result) ≡ function_move self.old }
-        ensures left { self.new ≡ moved_by (function_move self.old) self.old }
+        ensures told { Some (move_of result) ≡ tsfn_move self.old }
+        ensures left { self.new ≡ moved_by (tsfn_move self.old) self.old }
     {
         if let Some(due) = self.pop_torn() {
             return Moved::Delivers(due);

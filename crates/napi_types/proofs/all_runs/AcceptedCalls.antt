@@ -33,7 +33,7 @@ use Rattle.napi_types.specs.environment.Refusals.{refusal, early_refusal, depth_
 use Rattle.napi_types.specs.environment.SharedCalls.{given_of, shared_entry}
 use Rattle.napi_types.specs.hub.GivenSteps.{answer_unless_given, work_number, is_timely, is_fresh_work}
 use Rattle.napi_types.specs.hub.Hub.{Hub}
-use Rattle.napi_types.specs.hub.HubCalls.{call_answer, called_answer, function_at, hub_answer, is_thread_call, unless_refused}
+use Rattle.napi_types.specs.hub.HubCalls.{call_answer, called_answer, tsfn_at, hub_answer, is_thread_call, unless_refused}
 use Rattle.napi_types.specs.hub.HubStep.{answered_step}
 use Rattle.napi_types.specs.hub.HubSteps.{hub_step, hub_step_of}
 use Rattle.napi_types.specs.hub.ThreadSteps.{is_thread_there, thread_step, nothing_given}
@@ -104,7 +104,7 @@ hub-tells h who g (call.CancelAsyncWork w) n makes = cc
 hub-tells h who g (call.QueueAsyncWork w) n makes = queued-tells h w.0 (work_refusal is_created h.pool w.0) _ refl refl
 hub-tells h who g (call.CreateThreadsafeFunction f entry maximum count None context) n makes = cc
 hub-tells h who g (call.CreateThreadsafeFunction f entry maximum count (Some finalizer) context) n makes = record { so = λ ok. refl }
-hub-tells h who g (call.CallThreadsafeFunction f payload m) n makes = item-tells h who payload m (function_at h f.0)
+hub-tells h who g (call.CallThreadsafeFunction f payload m) n makes = item-tells h who payload m (tsfn_at h f.0)
 hub-tells h who g (call.AcquireThreadsafeFunction f) n makes = cc
 hub-tells h who g (call.ReleaseThreadsafeFunction f m) n makes = cc
 hub-tells h who g (call.RefThreadsafeFunction f) n makes = cc

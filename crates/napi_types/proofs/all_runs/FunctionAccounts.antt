@@ -17,7 +17,7 @@ use Rattle.napi_types.specs.plain.Lists.{found, head, tail, one}
 use Rattle.napi_types.specs.plain.Room.{one_if}
 use Rattle.napi_types.specs.parts.Functions.{FunctionState, new_function, accepted_items, is_finished, is_done, called, acquired, released, with_referenced, closed_state, closed, first_taken, with_item_taken, finished, done}
 use Rattle.napi_types.specs.hub.Hub.{Hub}
-use Rattle.napi_types.specs.hub.HubCalls.{function_at, item_made, finalizer_duty, new_function_number}
+use Rattle.napi_types.specs.hub.HubCalls.{tsfn_at, item_made, finalizer_duty, new_function_number}
 use Rattle.napi_types.specs.all_runs.Counts.{is_duty}
 use Rattle.napi_types.specs.all_runs.DutyPlaces.{has_item, owes_finalizer, function_passes}
 use Rattle.napi_types.proofs.plain.Found.{found-append, found-All, found-number, same-self, same-tells, found-map}
@@ -254,16 +254,16 @@ none-above late k m (f ∷ fs) sound above =
 -- IN THE HUB
 -- how a step changes the places of an item and of a finalizer
 abbrev pub accepted_at : TsfnId → ℕ → Hub → ℕ
-accepted_at t j h = one_if (function_passes (was_accepted j) (function_at h t.0))
+accepted_at t j h = one_if (function_passes (was_accepted j) (tsfn_at h t.0))
 
 abbrev pub item_at : TsfnId → ℕ → Hub → ℕ
-item_at t j h = one_if (function_passes (has_item j) (function_at h t.0))
+item_at t j h = one_if (function_passes (has_item j) (tsfn_at h t.0))
 
 abbrev pub finalizer_at : TsfnId → Hub → ℕ
-finalizer_at t h = one_if (function_passes has_finalizer (function_at h t.0))
+finalizer_at t h = one_if (function_passes has_finalizer (tsfn_at h t.0))
 
 abbrev pub owed_finalizer_at : TsfnId → Hub → ℕ
-owed_finalizer_at t h = one_if (function_passes owes_finalizer (function_at h t.0))
+owed_finalizer_at t h = one_if (function_passes owes_finalizer (tsfn_at h t.0))
 
 pub record FunctionAccount (t : TsfnId) (h : Hub) (made begun : Option Duty) (n : Hub) : Type 0 where
   pub accepted : (j : ℕ) → accepted_at t j n ≡ accepted_at t j h + one_if (is_duty (duty.Item t j) made)
@@ -272,7 +272,7 @@ pub record FunctionAccount (t : TsfnId) (h : Hub) (made begun : Option Duty) (n 
   pub owed : owed_finalizer_at t n + one_if (is_duty (duty.Function t) begun) ≡ owed_finalizer_at t h + one_if (is_duty (duty.Function t) made)
 
 -- the function of the number is as it was
-unchanged : (t : TsfnId) (h n : Hub) (made begun : Option Duty) → function_at n t.0 ≡ function_at h t.0 → SparesFunction t made begun
+unchanged : (t : TsfnId) (h n : Hub) (made begun : Option Duty) → tsfn_at n t.0 ≡ tsfn_at h t.0 → SparesFunction t made begun
     → FunctionAccount t h made begun n
 unchanged t h n made begun is apart = record {
   accepted = λ j. rw (is, apart.made_item j) (plus (accepted_at t j h));
@@ -282,7 +282,7 @@ unchanged t h n made begun is apart = record {
 }
 
 -- or is another
-became : (t : TsfnId) (h n : Hub) (made begun : Option Duty) (f g : FunctionState) → t.0 ≡ f.id → function_at h t.0 ≡ Some f → function_at n t.0 ≡ Some g
+became : (t : TsfnId) (h n : Hub) (made begun : Option Duty) (f g : FunctionState) → t.0 ≡ f.id → tsfn_at h t.0 ≡ Some f → tsfn_at n t.0 ≡ Some g
     → ChangeAccount f made begun g → FunctionAccount t h made begun n
 became t h n made begun f g of before now a = record {
   accepted = λ j. rw (before, now) (a.accepted t j of);
@@ -299,12 +299,12 @@ begun-work t n = record { made_item = λ j. refl; begun_item = λ j. refl; made_
 
 -- all are closed
 shut-account : (t : TsfnId) (h n : Hub) → n.functions ≡ map closed h.functions → FunctionAccount t h None None n
-shut-account t h n functions = by (function_at h t.0) refl
+shut-account t h n functions = by (tsfn_at h t.0) refl
   where
-    now : function_at n t.0 ≡ option_map closed (function_at h t.0)
+    now : tsfn_at n t.0 ≡ option_map closed (tsfn_at h t.0)
     now = ap (numbered_function t.0) functions ∙ found-mapped t.0 closed (λ y. refl) h.functions
 
-    by : (o : Option FunctionState) → function_at h t.0 ≡ o → FunctionAccount t h None None n
+    by : (o : Option FunctionState) → tsfn_at h t.0 ≡ o → FunctionAccount t h None None n
     by None there = unchanged t h n None None (now ∙ ap (option_map closed) there ∙ sym there) (none-apart t)
     by (Some f) there =
         became t h n None None f (closed f) (sym (found-number (λ (g : FunctionState). g.id) t.0 h.functions f there)) there (now ∙ ap (option_map closed) there)
@@ -319,7 +319,7 @@ created-account late t h addon target maximum count finalizer context n sound fu
     new : FunctionState
     new = new_function (new_function_number h) addon target maximum count finalizer context
 
-    now : function_at n t.0 ≡ option_or (function_at h t.0) (cond (new_function_number h == t.0) (Some new) None)
+    now : tsfn_at n t.0 ≡ option_or (tsfn_at h t.0) (cond (new_function_number h == t.0) (Some new) None)
     now = ap (numbered_function t.0) functions ∙ found-append (λ (f : FunctionState). f.id) t.0 h.functions (one new)
 
     never : (j : ℕ) → one_if (nat_lt 0 j && not (nat_lt (0 + 0) j)) ≡ 0
@@ -351,8 +351,9 @@ created-account late t h addon target maximum count finalizer context n sound fu
     by : (b : Bool) → (new_function_number h == t.0) ≡ b → FunctionAccount t h (finalizer_duty (new_function_number h) finalizer) None n
     by true is =
         let of : t.0 ≡ new_function_number h = sym (same-tells (new_function_number h) t.0 is) in
-        let before : function_at h t.0 ≡ None = none-above late 1 t.0 h.functions sound (omega (arith, of)) in
-        let there : function_at n t.0 ≡ Some new = now ∙ ap (λ o. option_or o (cond (new_function_number h == t.0) (Some new) None)) before ∙ ap (λ b. cond b (Some new) None) is in
+        let before : tsfn_at h t.0 ≡ None = none-above late 1 t.0 h.functions sound (omega (arith, of)) in
+        let there : tsfn_at n t.0 ≡ Some new = now ∙ ap (λ o. option_or o (cond (new_function_number h == t.0) (Some new) None)) before ∙ ap
+        (λ b. cond b (Some new) None) is in
         record {
           accepted = λ j. rw (before, there, no-item finalizer j) (never j);
           items = λ j. rw (before, there, no-item finalizer j) (ap (λ m. m + 0) (never j));
@@ -363,7 +364,7 @@ created-account late t h addon target maximum count finalizer context n sound fu
         none : (m : ℕ) → 0 + m ≡ m
         none m = omega arith
     by false is =
-        unchanged t h n _ None (now ∙ ap (λ b. option_or (function_at h t.0) (cond b (Some new) None)) is ∙ left (function_at h t.0))
+        unchanged t h n _ None (now ∙ ap (λ b. option_or (tsfn_at h t.0) (cond b (Some new) None)) is ∙ left (tsfn_at h t.0))
         (record { made_item = no-item finalizer; begun_item = λ j. refl; made_final = others finalizer (turned (new_function_number h) t.0 false is); begun_final = refl })
       where
         left : (o : Option FunctionState) → option_or o None ≡ o
@@ -389,8 +390,8 @@ function-account late t h _ _ _ _ _ sound well (changes s f change made begun n 
     by : (b : Bool) → (t.0 == f.id) ≡ b → FunctionAccount t h made begun n
     by true is =
         let of : t.0 ≡ f.id = same-tells t.0 f.id is in
-        became t h n made begun f (change f) of (ap (function_at h) of ∙ there)
-        (ap (function_at n) of ∙ ap (numbered_function f.id) functions ∙ found-changed f change (keeps-id f change made begun how) h.functions there)
+        became t h n made begun f (change f) of (ap (tsfn_at h) of ∙ there)
+        (ap (tsfn_at n) of ∙ ap (numbered_function f.id) functions ∙ found-changed f change (keeps-id f change made begun how) h.functions there)
         (change-account f change made begun (found-well f there) how)
       where
         found-well : (f : FunctionState) → numbered_function f.id h.functions ≡ Some f → FinishesWell f

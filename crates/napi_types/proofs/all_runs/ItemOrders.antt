@@ -16,7 +16,7 @@ use Rattle.napi_types.specs.plain.Entries.{begun_duty}
 use Rattle.napi_types.specs.plain.Lists.{head, tail, one}
 use Rattle.napi_types.specs.parts.Functions.{FunctionState, new_function, accepted_items, called, acquired, released, with_referenced, closed, first_taken, with_item_taken, finished, done}
 use Rattle.napi_types.specs.hub.Hub.{Hub, is_past_drain}
-use Rattle.napi_types.specs.hub.HubCalls.{function_at, item_made, finalizer_duty, new_function_number}
+use Rattle.napi_types.specs.hub.HubCalls.{tsfn_at, item_made, finalizer_duty, new_function_number}
 use Rattle.napi_types.specs.runs.Machine.{Machine}
 use Rattle.napi_types.specs.runs.Run.{IsRunBy, after, final}
 use Rattle.napi_types.specs.runs.Setting.{opening_of, final_of}
@@ -127,10 +127,10 @@ change-silent k f _ _ _ apart closes = record { made_none = refl; begun_none = r
 change-silent k f _ _ _ apart (finishes is) = record { made_none = refl; begun_none = refl }
 change-silent k f _ _ _ apart (owes is) = record { made_none = refl; begun_none = refl }
 
-same-orders : (k : ℕ) (h n : Hub) (made begun : Option Duty) → named_item k made ≡ [] → named_item k begun ≡ [] → function_at n k ≡ function_at h k
-    → OrdersItems k made begun (function_at h k) (function_at n k)
+same-orders : (k : ℕ) (h n : Hub) (made begun : Option Duty) → named_item k made ≡ [] → named_item k begun ≡ [] → tsfn_at n k ≡ tsfn_at h k
+    → OrdersItems k made begun (tsfn_at h k) (tsfn_at n k)
 same-orders k h n made begun unmade unbegun same =
-    silent k made begun (function_at h k) (function_at n k) unmade unbegun (ap accepted_of same) (ap taken_of same)
+    silent k made begun (tsfn_at h k) (tsfn_at n k) unmade unbegun (ap accepted_of same) (ap taken_of same)
 
 finalizer-silent : (k n : ℕ) (o : Option ℕ) → named_item k (finalizer_duty n o) ≡ []
 finalizer-silent k n None = refl
@@ -138,7 +138,7 @@ finalizer-silent k n (Some entry) = refl
 
 duty-orders : (late : Bool) (k : ℕ) (h : Hub) (made begun started : Option Duty) (s : Status) (n : Hub) → AreSoundFrom late 1 h.functions
     → HubDutyStep h made begun started s n
-    → OrdersItems k made begun (function_at h k) (function_at n k)
+    → OrdersItems k made begun (tsfn_at h k) (tsfn_at n k)
 duty-orders late k h _ _ _ _ _ sound (keeps s n e) = same-orders k h n None None refl refl (ap (numbered_function k) e.functions)
 duty-orders late k h _ _ _ _ _ sound (queues s id) = same-orders k h h _ None refl refl refl
 duty-orders late k h _ _ _ _ _ sound (cancels s m n waits is) = same-orders k h n None None refl refl (ap (λ (g : Hub). numbered_function k g.functions) is)
@@ -146,8 +146,8 @@ duty-orders late k h _ _ _ _ _ sound (starts s w m later waits free) = same-orde
 duty-orders late k h _ _ _ _ _ sound (works s w m runs) = same-orders k h h None None refl refl refl
 duty-orders late k h _ _ _ _ _ sound (completes o os n first pool functions) = same-orders k h n None _ refl refl (ap (numbered_function k) functions)
 duty-orders late k h _ _ _ _ _ sound (drains s n pool functions) =
-    let now : function_at n k ≡ option_map closed (function_at h k) = ap (numbered_function k) functions ∙ found-mapped k closed (λ y. refl) h.functions in
-    silent k None None (function_at h k) (function_at n k) refl refl (ap accepted_of now ∙ accepted (function_at h k)) (ap taken_of now ∙ taken (function_at h k))
+    let now : tsfn_at n k ≡ option_map closed (tsfn_at h k) = ap (numbered_function k) functions ∙ found-mapped k closed (λ y. refl) h.functions in
+    silent k None None (tsfn_at h k) (tsfn_at n k) refl refl (ap accepted_of now ∙ accepted (tsfn_at h k)) (ap taken_of now ∙ taken (tsfn_at h k))
   where
     accepted : (o : Option FunctionState) → accepted_of (option_map closed o) ≡ accepted_of o
     accepted None = refl
@@ -161,7 +161,7 @@ duty-orders late k h _ _ _ _ _ sound (creates s addon target maximum count final
     new : FunctionState
     new = new_function (new_function_number h) addon target maximum count finalizer context
 
-    now : numbered_function k (h.functions ++ one new) ≡ option_or (function_at h k) (cond (new_function_number h == k) (Some new) None)
+    now : numbered_function k (h.functions ++ one new) ≡ option_or (tsfn_at h k) (cond (new_function_number h == k) (Some new) None)
     now = found-append (λ (f : FunctionState). f.id) k h.functions (one new)
 
     left : (o : Option FunctionState) → option_or o None ≡ o
@@ -169,26 +169,29 @@ duty-orders late k h _ _ _ _ _ sound (creates s addon target maximum count final
     left (Some f) = refl
 
     by : (b : Bool) → (new_function_number h == k) ≡ b
-        → OrdersItems k (finalizer_duty (new_function_number h) finalizer) None (function_at h k) (numbered_function k (h.functions ++ one new))
+        → OrdersItems k (finalizer_duty (new_function_number h) finalizer) None (tsfn_at h k) (numbered_function k (h.functions ++ one new))
     by true is =
         let of : new_function_number h ≡ k = same-tells (new_function_number h) k is in
-        let before : function_at h k ≡ None = none-above late 1 k h.functions sound (omega (arith, of)) in
+        let before : tsfn_at h k ≡ None = none-above late 1 k h.functions sound (omega (arith, of)) in
         let there : numbered_function k (h.functions ++ one new) ≡ Some new = now ∙ ap (λ o. option_or o (cond (new_function_number h == k) (Some new) None)) before ∙ ap (λ b. cond b (Some new) None) is in
-        silent k _ None (function_at h k) (numbered_function k (h.functions ++ one new)) (finalizer-silent k (new_function_number h) finalizer) refl
+        silent k _ None (tsfn_at h k) (numbered_function k (h.functions ++ one new)) (finalizer-silent k (new_function_number h) finalizer) refl
         (ap accepted_of there ∙ sym (ap accepted_of before)) (ap taken_of there ∙ sym (ap taken_of before))
     by false is =
-        let there : numbered_function k (h.functions ++ one new) ≡ function_at h k = now ∙ ap (λ b. option_or (function_at h k) (cond b (Some new) None)) is ∙ left (function_at h k) in
-        silent k _ None (function_at h k) (numbered_function k (h.functions ++ one new)) (finalizer-silent k (new_function_number h) finalizer) refl (ap accepted_of there) (ap taken_of there)
+        let there : numbered_function k (h.functions ++ one new) ≡ tsfn_at h k = now ∙ ap (λ b. option_or (tsfn_at h k) (cond b (Some new) None)) is ∙ left
+        (tsfn_at h k) in
+        silent k _ None (tsfn_at h k) (numbered_function k (h.functions ++ one new)) (finalizer-silent k (new_function_number h) finalizer) refl
+        (ap accepted_of there) (ap taken_of there)
 duty-orders late k h _ _ _ _ _ sound (changes s f change made begun n there how pool functions) = by (f.id == k) refl
   where
     turned : (a b : ℕ) (c : Bool) → (a == b) ≡ c → (b == a) ≡ c
     turned a b c is = grind (arith, nat_tests)
 
-    by : (b : Bool) → (f.id == k) ≡ b → OrdersItems k made begun (function_at h k) (function_at n k)
+    by : (b : Bool) → (f.id == k) ≡ b → OrdersItems k made begun (tsfn_at h k) (tsfn_at n k)
     by true is =
         let now : numbered_function f.id n.functions ≡ Some (change f) = ap (numbered_function f.id) functions ∙ found-changed f change (keeps-id f change made begun how) h.functions there in
-        subst (λ j. OrdersItems j made begun (function_at h j) (function_at n j)) (same-tells f.id k is)
-        (subst (λ o. OrdersItems f.id made begun o (function_at n f.id)) (sym there) (subst (λ o. OrdersItems f.id made begun (Some f) o) (sym now) (change-orders f change made begun how)))
+        subst (λ j. OrdersItems j made begun (tsfn_at h j) (tsfn_at n j)) (same-tells f.id k is)
+        (subst (λ o. OrdersItems f.id made begun o (tsfn_at n f.id)) (sym there)
+        (subst (λ o. OrdersItems f.id made begun (Some f) o) (sym now) (change-orders f change made begun how)))
     by false is =
         let none : IsSilent k made begun = change-silent k f change made begun is how in
         same-orders k h n made begun none.made_none none.begun_none
@@ -203,9 +206,10 @@ book-silent k (Some (duty.Item g n)) book = cc
 book-silent k (Some (duty.Function g)) book = refl
 
 side-orders : (late : Bool) (k : ℕ) (h : Hub) (x : Entry) (n : Hub) → AreSoundFrom late 1 h.functions → HubSide h x n
-    → OrdersItems k x.reply.made (begun_duty x.what x.reply.out) (function_at h k) (function_at n k)
+    → OrdersItems k x.reply.made (begun_duty x.what x.reply.out) (tsfn_at h k) (tsfn_at n k)
 side-orders late k h x _ sound (in_journal n same spares) =
-    same-orders k h n _ _ (book-silent k x.reply.made spares.made) (book-silent k (begun_duty x.what x.reply.out) spares.begun) (ap (λ (g : Hub). function_at g k) same)
+    same-orders k h n _ _ (book-silent k x.reply.made spares.made) (book-silent k (begun_duty x.what x.reply.out) spares.begun)
+    (ap (λ (g : Hub). tsfn_at g k) same)
 side-orders late k h x _ sound (in_history n undropped step) = duty-orders late k h _ _ _ _ n sound step
 
 -- from a count on
@@ -238,15 +242,15 @@ counts-cons ns ms old mid new first later = record {
         shift a n = omega arith
 
 record RunOrders (k : ℕ) (h : Hub) (xs : List Entry) (n : Hub) : Type 0 where
-  pub accepted : CountsOn (items_made k xs) (accepted_of (function_at h k)) (accepted_of (function_at n k))
-  pub taken : CountsOn (items_begun k xs) (taken_of (function_at h k)) (taken_of (function_at n k))
+  pub accepted : CountsOn (items_made k xs) (accepted_of (tsfn_at h k)) (accepted_of (tsfn_at n k))
+  pub taken : CountsOn (items_begun k xs) (taken_of (tsfn_at h k)) (taken_of (tsfn_at n k))
 
 run-orders : (k : ℕ) (l : Limits) (m : Machine) (bs : List Ask) (xs : List Entry) → Accountable l m → IsRunBy m bs xs → RunOrders k m.hub xs (final m bs xs).hub
 run-orders k l =
     along-accountable l (λ m bs xs. RunOrders k m.hub xs (final m bs xs).hub)
     (λ m. record { accepted = none-told [] _ _ refl refl; taken = none-told [] _ _ refl refl })
     (λ m b bs x xs a next side later.
-    let first : OrdersItems k x.reply.made (begun_duty x.what x.reply.out) (function_at m.hub k) (function_at (after m b x).hub k) =
+    let first : OrdersItems k x.reply.made (begun_duty x.what x.reply.out) (tsfn_at m.hub k) (tsfn_at (after m b x).hub k) =
     side-orders (is_past_drain m.hub.stage) k m.hub x (after m b x).hub (sound-of l m a) side in
     record {
       accepted = counts-cons (named_item k x.reply.made) (items_made k xs) _ _ _ first.accepted later.accepted;

@@ -18,7 +18,7 @@ use Rattle.napi_types.specs.parts.Functions.{FunctionState, is_done}
 use Rattle.napi_types.specs.parts.Works.{Execution, Outcome, is_cancelled}
 use Rattle.napi_types.specs.hub.HistoryRoom.{function_places, state_places, reserved_history}
 use Rattle.napi_types.specs.hub.Hub.{Hub, threads_left, workers_left, stage_places}
-use Rattle.napi_types.specs.hub.HubCalls.{function_at}
+use Rattle.napi_types.specs.hub.HubCalls.{tsfn_at}
 use Rattle.napi_types.specs.runs.Machine.{Machine}
 use Rattle.napi_types.specs.runs.Setting.{Setting, RunsBy, EndsBy, opening_of, final_of}
 use Rattle.napi_types.specs.all_runs.Counts.{is_duty, made, dropped, begun, started, begun_cancelled, begun_uncancelled}
@@ -206,10 +206,10 @@ no-finalizer f none =
     by false = refl
 
 none-passes : (test : FunctionState → Bool) → ((f : FunctionState) → function_places f ≡ 0 → test f ≡ false) → (h : Hub) (n : ℕ) → NothingReserved h
-    → one_if (function_passes test (function_at h n)) ≡ 0
-none-passes test fails h n empty = by (function_at h n) refl
+    → one_if (function_passes test (tsfn_at h n)) ≡ 0
+none-passes test fails h n empty = by (tsfn_at h n) refl
   where
-    by : (o : Option FunctionState) → function_at h n ≡ o → one_if (function_passes test o) ≡ 0
+    by : (o : Option FunctionState) → tsfn_at h n ≡ o → one_if (function_passes test o) ≡ 0
     by None there = refl
     by (Some f) there = ap one_if (fails f (found-All (λ (g : FunctionState). g.id) (λ g. function_places g ≡ 0) n h.functions f empty.functions there))
 

@@ -19,7 +19,7 @@ use Rattle.napi_types.specs.hub.GivenSteps.{work_number}
 use Rattle.napi_types.specs.hub.HistoryLaws.{IsHubWithin, HubsAreWithin}
 use Rattle.napi_types.specs.hub.Hub.{Hub, new_hub}
 use Rattle.napi_types.specs.hub.HubCalls.{new_function_number}
-use Rattle.napi_types.specs.hub.HubMoves.{in_function, without_duty}
+use Rattle.napi_types.specs.hub.HubMoves.{in_tsfn, without_duty}
 use Rattle.napi_types.specs.hub.HubSteps.{hub_step, hub_along}
 use Rattle.napi_types.specs.hub.Replays.{HubReplays}
 use Rattle.napi_types.proofs.hub.HubCases.{Alters, calls, acquires, releases, references, unreferences, HubCase, asks, creates_work, deletes_work, cancels_work, queues_work, creates_function, alters, goes, ends_loop, drains, comes_to_finals, delivers, closes, finishes, ends, thread_ends, worker_ends, starts, finishes_work, hub-case}
@@ -117,7 +117,7 @@ same-within n h p ids numbers w = record {
 
 -- one function is changed
 changed-within : (n k : ℕ) (h : Hub) (change : FunctionState → FunctionState) → ((f : FunctionState) → accepted_items (change f) ≤ accepted_items f + 1) → IsHubWithin n h
-    → IsHubWithin (n + 1) (in_function k change h)
+    → IsHubWithin (n + 1) (in_tsfn k change h)
 changed-within n k h change adds w = record {
   issued = let le = w.issued in omega (arith, le);
   numbered = let le = w.numbered in omega (arith, le);

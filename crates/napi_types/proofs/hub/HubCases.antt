@@ -28,8 +28,8 @@ use Rattle.napi_types.specs.parts.Functions.{FunctionState, call_status, called,
 use Rattle.napi_types.specs.parts.Pool.{with_work, without_work, with_cancelled, with_queued, with_started, with_finished, executed_by, work_refusal}
 use Rattle.napi_types.specs.parts.Works.{is_created, is_queued, is_deletable}
 use Rattle.napi_types.specs.hub.Hub.{Hub, stage_after, threads_left, workers_left}
-use Rattle.napi_types.specs.hub.HubCalls.{unless_refused, on_function, function_at, call_answer, called_answer, with_function, hub_answer, is_thread_call}
-use Rattle.napi_types.specs.hub.HubMoves.{HubMove, Delivers, Closes, Finishes, hub_move, in_pool, in_function, with_delivered}
+use Rattle.napi_types.specs.hub.HubCalls.{unless_refused, on_function, tsfn_at, call_answer, called_answer, with_function, hub_answer, is_thread_call}
+use Rattle.napi_types.specs.hub.HubMoves.{HubMove, Delivers, Closes, Finishes, hub_move, in_pool, in_tsfn, with_delivered}
 use Rattle.napi_types.specs.hub.HubStep.{HubStep, answered_step}
 use Rattle.napi_types.specs.hub.GivenSteps.{is_looped, is_failure, is_timely, is_fresh_work, work_number, answer_unless_given, given_step}
 use Rattle.napi_types.specs.hub.HubEvents.{environment_event, staged, drained_hub, loop_end_step, begin_step, close_step, finish_step, frame_end_step}
@@ -62,8 +62,8 @@ pub data HubCase (h : Hub) (x : Entry) (told : Out) : Hub → Type 0 where
   creates_function : (f : Option HandleId) (entry : Option ℕ) (maximum count : ℕ) (finalizer : Option ℕ) (context addon : ℕ) (target : Target)
       → x.what ≡ what.Call (call.CreateThreadsafeFunction f entry maximum count finalizer context) → is_looped h.stage ≡ false
       → HubCase h x told (with_function addon target maximum count finalizer context h)
-  alters : (c : Call) (n : ℕ) (f : FunctionState) (change : FunctionState → FunctionState) → x.what ≡ what.Call c → function_at h n ≡ Some f → Alters f c change
-      → HubCase h x told (in_function f.id change h)
+  alters : (c : Call) (n : ℕ) (f : FunctionState) (change : FunctionState → FunctionState) → x.what ≡ what.Call c → tsfn_at h n ≡ Some f → Alters f c change
+      → HubCase h x told (in_tsfn f.id change h)
   -- EVENTS OF THE ENVIRONMENT
   -- the great ones
   goes : x.what ≡ what.Host host.Go → is_some (stage_after h.stage host.Go) && is_none h.standing ≡ true → HubCase h x told (staged host.Go h)
@@ -72,8 +72,8 @@ pub data HubCase (h : Hub) (x : Entry) (told : Out) : Hub → Type 0 where
   comes_to_finals : x.what ≡ what.Host host.Finals → is_some (stage_after h.stage host.Finals) && is_none h.standing ≡ true → HubCase h x told (staged host.Finals h)
   -- the moves of the hub, and the end of a frame of its own
   delivers : (d : DueInfo) → x.what ≡ what.Host host.Begin → hub_move h ≡ Some (Delivers d) → is_none h.standing ≡ true → HubCase h x told (with_delivered d h)
-  closes : (n : ℕ) → x.what ≡ what.Host host.CloseTsfn → hub_move h ≡ Some (Closes n) → HubCase h x told (in_function n closed h)
-  finishes : (n : ℕ) → x.what ≡ what.Host host.FinishTsfn → hub_move h ≡ Some (Finishes n) → HubCase h x told (in_function n finished h)
+  closes : (n : ℕ) → x.what ≡ what.Host host.CloseTsfn → hub_move h ≡ Some (Closes n) → HubCase h x told (in_tsfn n closed h)
+  finishes : (n : ℕ) → x.what ≡ what.Host host.FinishTsfn → hub_move h ≡ Some (Finishes n) → HubCase h x told (in_tsfn n finished h)
   ends : (d : DueInfo) → x.what ≡ what.Host host.End → h.standing ≡ Some d → HubCase h x told (record h { standing = None })
   -- EVENTS OF OTHERS
   thread_ends : (t : ℕ) → x.what ≡ what.Host host.ActorEnd → has_number t (threads_left h) ≡ true → HubCase h x told (record h { ended_threads = with_number t h.ended_threads })
@@ -97,14 +97,15 @@ unless-case : (h : Hub) (x : Entry) (s : Option Status) (refusal : Option Status
 unless-case h x None refusal a c is shared same case = case same
 unless-case h x (Some s) refusal a c is shared same case = asks c is shared
 
-alters-case : (h : Hub) (x : Entry) (n : ℕ) (c : Call) (answer : FunctionState → Answer Hub) (o : Option FunctionState) → x.what ≡ what.Call c → is_shared c ≡ true → function_at h n ≡ o
-    → ((f : FunctionState) → function_at h n ≡ Some f → HubCase h x (answer f).reply.out (answer f).after)
+alters-case : (h : Hub) (x : Entry) (n : ℕ) (c : Call) (answer : FunctionState → Answer Hub) (o : Option FunctionState) → x.what ≡ what.Call c
+    → is_shared c ≡ true → tsfn_at h n ≡ o
+    → ((f : FunctionState) → tsfn_at h n ≡ Some f → HubCase h x (answer f).reply.out (answer f).after)
     → HubCase h x (on_function h answer o).reply.out (on_function h answer o).after
 alters-case h x n c answer None is shared there case = asks c is shared
 alters-case h x n c answer (Some f) is shared there case = case f there
 
 calls-case : (h : Hub) (x : Entry) (n : TsfnId) (payload : ℕ) (m : Mode) (who : Actor) (o : Option FunctionState) → x.what ≡ what.Call (call.CallThreadsafeFunction n payload m)
-    → function_at h n.0 ≡ o → AnswersWell h x (call_answer h who payload m o)
+    → tsfn_at h n.0 ≡ o → AnswersWell h x (call_answer h who payload m o)
 calls-case h x n payload m who None is there = asks (call.CallThreadsafeFunction n payload m) is refl
 calls-case h x n payload m who (Some f) is there = by (call_status who m f) refl
   where
@@ -124,17 +125,21 @@ answer-case h x who g (call.QueueAsyncWork w) is fresh early =
     unless-case h x (work_refusal is_created h.pool w.0) _ _ (call.QueueAsyncWork w) is refl refl (λ none. queues_work w is none (early refl refl))
 answer-case h x who g (call.CreateThreadsafeFunction f entry maximum count finalizer context) is fresh early =
     creates_function f entry maximum count finalizer context g.addon _ is (early refl refl)
-answer-case h x who g (call.CallThreadsafeFunction f payload m) is fresh early = calls-case h x f payload m who (function_at h f.0) is refl
+answer-case h x who g (call.CallThreadsafeFunction f payload m) is fresh early = calls-case h x f payload m who (tsfn_at h f.0) is refl
 answer-case h x who g (call.AcquireThreadsafeFunction f) is fresh early =
-    alters-case h x f.0 (call.AcquireThreadsafeFunction f) _ (function_at h f.0) is refl refl (λ y there. alters (call.AcquireThreadsafeFunction f) f.0 y _ is there (acquires f))
+    alters-case h x f.0 (call.AcquireThreadsafeFunction f) _ (tsfn_at h f.0) is refl refl
+    (λ y there. alters (call.AcquireThreadsafeFunction f) f.0 y _ is there (acquires f))
 answer-case h x who g (call.ReleaseThreadsafeFunction f m) is fresh early =
-    alters-case h x f.0 (call.ReleaseThreadsafeFunction f m) _ (function_at h f.0) is refl refl (λ y there. alters (call.ReleaseThreadsafeFunction f m) f.0 y _ is there (releases f m))
+    alters-case h x f.0 (call.ReleaseThreadsafeFunction f m) _ (tsfn_at h f.0) is refl refl
+    (λ y there. alters (call.ReleaseThreadsafeFunction f m) f.0 y _ is there (releases f m))
 answer-case h x who g (call.RefThreadsafeFunction f) is fresh early =
-    alters-case h x f.0 (call.RefThreadsafeFunction f) _ (function_at h f.0) is refl refl (λ y there. alters (call.RefThreadsafeFunction f) f.0 y _ is there (references f))
+    alters-case h x f.0 (call.RefThreadsafeFunction f) _ (tsfn_at h f.0) is refl refl
+    (λ y there. alters (call.RefThreadsafeFunction f) f.0 y _ is there (references f))
 answer-case h x who g (call.UnrefThreadsafeFunction f) is fresh early =
-    alters-case h x f.0 (call.UnrefThreadsafeFunction f) _ (function_at h f.0) is refl refl (λ y there. alters (call.UnrefThreadsafeFunction f) f.0 y _ is there (unreferences f))
+    alters-case h x f.0 (call.UnrefThreadsafeFunction f) _ (tsfn_at h f.0) is refl refl
+    (λ y there. alters (call.UnrefThreadsafeFunction f) f.0 y _ is there (unreferences f))
 answer-case h x who g (call.GetThreadsafeFunctionContext f) is fresh early =
-    alters-case h x f.0 (call.GetThreadsafeFunctionContext f) _ (function_at h f.0) is refl refl (λ y there. asks (call.GetThreadsafeFunctionContext f) is refl)
+    alters-case h x f.0 (call.GetThreadsafeFunctionContext f) _ (tsfn_at h f.0) is refl refl (λ y there. asks (call.GetThreadsafeFunctionContext f) is refl)
 answer-case h x who g _ is fresh early = tt
 
 -- EVENTS OF THE ENVIRONMENT
@@ -204,11 +209,13 @@ thread-case h t x (what.Call c) is =
     (λ may. by c is (and-right (is_thread_there h t) (is_thread_call c) may))
   where
     by : (c : Call) → x.what ≡ what.Call c → is_thread_call c ≡ true → AnswersWell h x (hub_answer h (actor.Thread t) nothing_given c 0)
-    by (call.CallThreadsafeFunction f payload m) is thread = calls-case h x f payload m (actor.Thread t) (function_at h f.0) is refl
+    by (call.CallThreadsafeFunction f payload m) is thread = calls-case h x f payload m (actor.Thread t) (tsfn_at h f.0) is refl
     by (call.AcquireThreadsafeFunction f) is thread =
-        alters-case h x f.0 (call.AcquireThreadsafeFunction f) _ (function_at h f.0) is refl refl (λ y there. alters (call.AcquireThreadsafeFunction f) f.0 y _ is there (acquires f))
+        alters-case h x f.0 (call.AcquireThreadsafeFunction f) _ (tsfn_at h f.0) is refl refl
+        (λ y there. alters (call.AcquireThreadsafeFunction f) f.0 y _ is there (acquires f))
     by (call.ReleaseThreadsafeFunction f m) is thread =
-        alters-case h x f.0 (call.ReleaseThreadsafeFunction f m) _ (function_at h f.0) is refl refl (λ y there. alters (call.ReleaseThreadsafeFunction f m) f.0 y _ is there (releases f m))
+        alters-case h x f.0 (call.ReleaseThreadsafeFunction f m) _ (tsfn_at h f.0) is refl refl
+        (λ y there. alters (call.ReleaseThreadsafeFunction f m) f.0 y _ is there (releases f m))
     by _ is thread = cc
 thread-case h t x (what.Host event) is = thread_event-case h t x event is
 

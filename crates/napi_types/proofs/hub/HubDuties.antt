@@ -30,8 +30,8 @@ use Rattle.napi_types.specs.parts.Functions.{FunctionState, call_status}
 use Rattle.napi_types.specs.parts.Pool.{work_refusal, executed_by, WorkPool, completion_info, first_completion, work_numbered}
 use Rattle.napi_types.specs.parts.Works.{is_created, is_queued, is_deletable, Work, Outcome}
 use Rattle.napi_types.specs.hub.Hub.{Hub}
-use Rattle.napi_types.specs.hub.HubCalls.{is_thread_call, hub_answer, unless_refused, on_function, function_at, item_made, call_answer, called_answer, finalizer_duty, new_function_number}
-use Rattle.napi_types.specs.hub.HubMoves.{HubMove, Delivers, Closes, Finishes, hub_move, function_move, function_move_in, first_move}
+use Rattle.napi_types.specs.hub.HubCalls.{is_thread_call, hub_answer, unless_refused, on_function, tsfn_at, item_made, call_answer, called_answer, finalizer_duty, new_function_number}
+use Rattle.napi_types.specs.hub.HubMoves.{HubMove, Delivers, Closes, Finishes, hub_move, tsfn_move, tsfn_move_in, first_move}
 use Rattle.napi_types.specs.hub.HubStep.{answered_step}
 use Rattle.napi_types.specs.hub.GivenSteps.{given_step, work_number, answer_unless_given}
 use Rattle.napi_types.specs.hub.HubEvents.{environment_event, loop_end_step, begin_step, close_step, finish_step, frame_end_step}
@@ -61,7 +61,7 @@ completion-of_hub p = by (head p.finished)
     by None = tt
     by (Some o) = told o (work_numbered p o.work)
 
-function-of_hub : (f : FunctionState) (s : TsfnState) (items : List ℕ) → IfSome (function_move_in f s items) DeliversOfHub
+function-of_hub : (f : FunctionState) (s : TsfnState) (items : List ℕ) → IfSome (tsfn_move_in f s items) DeliversOfHub
 function-of_hub f Open [] = by (f.count == 0)
   where
     by : (b : Bool) → IfSome (cond b (Some (Closes f.id)) None) DeliversOfHub
@@ -75,7 +75,7 @@ function-of_hub f Done items = tt
 
 first-of_hub : (fs : List FunctionState) → IfSome (first_move fs) DeliversOfHub
 first-of_hub [] = tt
-first-of_hub (f ∷ fs) = by (function_move f) (function-of_hub f f.state f.items) (first-of_hub fs)
+first-of_hub (f ∷ fs) = by (tsfn_move f) (function-of_hub f f.state f.items) (first-of_hub fs)
   where
     by : (o : Option HubMove) → IfSome o DeliversOfHub → IfSome (first_move fs) DeliversOfHub → IfSome (option_or o (first_move fs)) DeliversOfHub
     by None here later = later
@@ -142,12 +142,12 @@ answer-spares h who g (call.CancelAsyncWork w) n = unless-spares h (work_refusal
 answer-spares h who g (call.QueueAsyncWork w) n = unless-spares h (work_refusal is_created h.pool w.0) _ (record { dropped = refl; made = refl })
 answer-spares h who g (call.CreateThreadsafeFunction f entry maximum count finalizer context) n =
     record { dropped = refl; made = finalizer-of_hub (new_function_number h) finalizer }
-answer-spares h who g (call.CallThreadsafeFunction f payload m) n = called-spares h who payload m (function_at h f.0)
-answer-spares h who g (call.AcquireThreadsafeFunction f) n = on-spares h _ (function_at h f.0) (λ x. record { dropped = refl; made = tt })
-answer-spares h who g (call.ReleaseThreadsafeFunction f m) n = on-spares h _ (function_at h f.0) (λ x. record { dropped = refl; made = tt })
-answer-spares h who g (call.RefThreadsafeFunction f) n = on-spares h _ (function_at h f.0) (λ x. record { dropped = refl; made = tt })
-answer-spares h who g (call.UnrefThreadsafeFunction f) n = on-spares h _ (function_at h f.0) (λ x. record { dropped = refl; made = tt })
-answer-spares h who g (call.GetThreadsafeFunctionContext f) n = on-spares h _ (function_at h f.0) (λ x. record { dropped = refl; made = tt })
+answer-spares h who g (call.CallThreadsafeFunction f payload m) n = called-spares h who payload m (tsfn_at h f.0)
+answer-spares h who g (call.AcquireThreadsafeFunction f) n = on-spares h _ (tsfn_at h f.0) (λ x. record { dropped = refl; made = tt })
+answer-spares h who g (call.ReleaseThreadsafeFunction f m) n = on-spares h _ (tsfn_at h f.0) (λ x. record { dropped = refl; made = tt })
+answer-spares h who g (call.RefThreadsafeFunction f) n = on-spares h _ (tsfn_at h f.0) (λ x. record { dropped = refl; made = tt })
+answer-spares h who g (call.UnrefThreadsafeFunction f) n = on-spares h _ (tsfn_at h f.0) (λ x. record { dropped = refl; made = tt })
+answer-spares h who g (call.GetThreadsafeFunctionContext f) n = on-spares h _ (tsfn_at h f.0) (λ x. record { dropped = refl; made = tt })
 answer-spares h who g _ n = tt
 
 -- the entry of a call, with the answer

@@ -31,9 +31,9 @@ use Rattle.napi_types.specs.parts.Pool.{number_of_work, work_numbered, completio
 use Rattle.napi_types.specs.parts.Works.{Work, Outcome, is_created, is_queued, is_deletable}
 use Rattle.napi_types.specs.hub.GivenSteps.{answer_unless_given, work_number, given_step}
 use Rattle.napi_types.specs.hub.Hub.{Hub}
-use Rattle.napi_types.specs.hub.HubCalls.{unless_refused, on_function, function_at, item_made, call_answer, called_answer, finalizer_duty, new_function_number, with_function, hub_answer, is_thread_call}
+use Rattle.napi_types.specs.hub.HubCalls.{unless_refused, on_function, tsfn_at, item_made, call_answer, called_answer, finalizer_duty, new_function_number, with_function, hub_answer, is_thread_call}
 use Rattle.napi_types.specs.hub.HubEvents.{environment_event, loop_end_step, begin_step, close_step, finish_step, frame_end_step}
-use Rattle.napi_types.specs.hub.HubMoves.{HubMove, Delivers, Closes, Finishes, function_move_in, function_move, first_move, hub_move, in_pool, in_function, with_delivered}
+use Rattle.napi_types.specs.hub.HubMoves.{HubMove, Delivers, Closes, Finishes, tsfn_move_in, tsfn_move, first_move, hub_move, in_pool, in_tsfn, with_delivered}
 use Rattle.napi_types.specs.hub.HubStep.{HubStep, answered_step}
 use Rattle.napi_types.specs.hub.HubSteps.{hub_step, hub_step_of, environment_step}
 use Rattle.napi_types.specs.hub.ThreadSteps.{is_thread_there, nothing_given, thread_step, thread_event}
@@ -74,7 +74,7 @@ pub data HubDutyStep (h : Hub) : Option Duty → Option Duty → Option Duty →
   drains : (s : Status) (n : Hub) → n.pool ≡ drained h.pool → n.functions ≡ map closed h.functions → HubDutyStep h None None None s n
   creates : (s : Status) (addon : ℕ) (target : Target) (maximum count : ℕ) (finalizer : Option ℕ) (context : ℕ)
       → HubDutyStep h (finalizer_duty (new_function_number h) finalizer) None None s (with_function addon target maximum count finalizer context h)
-  changes : (s : Status) (f : FunctionState) (change : FunctionState → FunctionState) (made begun : Option Duty) (n : Hub) → function_at h f.id ≡ Some f
+  changes : (s : Status) (f : FunctionState) (change : FunctionState → FunctionState) (made begun : Option Duty) (n : Hub) → tsfn_at h f.id ≡ Some f
       → ChangesFunction f change made begun → n.pool ≡ h.pool → n.functions ≡ function_changed_at f.id change h.functions → HubDutyStep h made begun None s n
   completes : (o : Outcome) (os : List Outcome) (n : Hub) → h.pool.finished ≡ o ∷ os → n.pool ≡ with_completed h.pool → n.functions ≡ h.functions
       → HubDutyStep h None (Some (duty.Work o.work)) None o.status n
@@ -106,20 +106,20 @@ unless-duties h None refusal a same k = k same
 unless-duties h (Some s) refusal a same k = keeps s h (same-duties h)
 
 -- of the function that is there
-found-there : (h : Hub) (n : ℕ) (f : FunctionState) → function_at h n ≡ Some f → function_at h f.id ≡ Some f
-found-there h n f there = ap (function_at h) (found-number (λ (g : FunctionState). g.id) n h.functions f there) ∙ there
+found-there : (h : Hub) (n : ℕ) (f : FunctionState) → tsfn_at h n ≡ Some f → tsfn_at h f.id ≡ Some f
+found-there h n f there = ap (tsfn_at h) (found-number (λ (g : FunctionState). g.id) n h.functions f there) ∙ there
 
-on-duties : (h : Hub) (n : ℕ) (answer : FunctionState → Answer Hub) (o : Option FunctionState) → function_at h n ≡ o
-    → ((f : FunctionState) → function_at h f.id ≡ Some f → HubDutyStep h (answer f).reply.made None None (answer f).reply.status (answer f).after)
+on-duties : (h : Hub) (n : ℕ) (answer : FunctionState → Answer Hub) (o : Option FunctionState) → tsfn_at h n ≡ o
+    → ((f : FunctionState) → tsfn_at h f.id ≡ Some f → HubDutyStep h (answer f).reply.made None None (answer f).reply.status (answer f).after)
     → (let b : Answer Hub = on_function h answer o in HubDutyStep h b.reply.made None None b.reply.status b.after)
 on-duties h n answer None there k = keeps status.InvalidArg h (same-duties h)
 on-duties h n answer (Some f) there k = k f (found-there h n f there)
 
-changed : (h : Hub) (s : Status) (f : FunctionState) (change : FunctionState → FunctionState) (made begun : Option Duty) → function_at h f.id ≡ Some f
-    → ChangesFunction f change made begun → HubDutyStep h made begun None s (in_function f.id change h)
-changed h s f change made begun there how = changes s f change made begun (in_function f.id change h) there how refl refl
+changed : (h : Hub) (s : Status) (f : FunctionState) (change : FunctionState → FunctionState) (made begun : Option Duty) → tsfn_at h f.id ≡ Some f
+    → ChangesFunction f change made begun → HubDutyStep h made begun None s (in_tsfn f.id change h)
+changed h s f change made begun there how = changes s f change made begun (in_tsfn f.id change h) there how refl refl
 
-called-duties : (h : Hub) (n : ℕ) (payload : ℕ) (m : Mode) (who : Actor) (o : Option FunctionState) → function_at h n ≡ o
+called-duties : (h : Hub) (n : ℕ) (payload : ℕ) (m : Mode) (who : Actor) (o : Option FunctionState) → tsfn_at h n ≡ o
     → AnswerDuties h (call_answer h who payload m o)
 called-duties h n payload m who None there = keeps status.InvalidArg h (same-duties h)
 called-duties h n payload m who (Some f) there = by (call_status who m f)
@@ -144,16 +144,16 @@ answer-duties h who g (call.DeleteAsyncWork w) n =
 answer-duties h who g (call.CancelAsyncWork w) n = unless-duties h (work_refusal is_queued h.pool w.0) _ _ refl (λ none. cancelled-duties h w.0 none)
 answer-duties h who g (call.QueueAsyncWork w) n = unless-duties h (work_refusal is_created h.pool w.0) _ _ refl (λ none. queues status.Ok w.0)
 answer-duties h who g (call.CreateThreadsafeFunction f entry maximum count finalizer context) n = creates status.Ok g.addon _ maximum count finalizer context
-answer-duties h who g (call.CallThreadsafeFunction f payload m) n = called-duties h f.0 payload m who (function_at h f.0) refl
+answer-duties h who g (call.CallThreadsafeFunction f payload m) n = called-duties h f.0 payload m who (tsfn_at h f.0) refl
 answer-duties h who g (call.AcquireThreadsafeFunction f) n =
-    on-duties h f.0 _ (function_at h f.0) refl (λ x there. changed h (acquire_status x) x _ None None there (acquires (acquire_status x)))
+    on-duties h f.0 _ (tsfn_at h f.0) refl (λ x there. changed h (acquire_status x) x _ None None there (acquires (acquire_status x)))
 answer-duties h who g (call.ReleaseThreadsafeFunction f m) n =
-    on-duties h f.0 _ (function_at h f.0) refl (λ x there. changed h (release_status x) x _ None None there (releases (release_status x) m))
+    on-duties h f.0 _ (tsfn_at h f.0) refl (λ x there. changed h (release_status x) x _ None None there (releases (release_status x) m))
 answer-duties h who g (call.RefThreadsafeFunction f) n =
-    on-duties h f.0 _ (function_at h f.0) refl (λ x there. changed h status.Ok x _ None None there (refers true))
+    on-duties h f.0 _ (tsfn_at h f.0) refl (λ x there. changed h status.Ok x _ None None there (refers true))
 answer-duties h who g (call.UnrefThreadsafeFunction f) n =
-    on-duties h f.0 _ (function_at h f.0) refl (λ x there. changed h status.Ok x _ None None there (refers false))
-answer-duties h who g (call.GetThreadsafeFunctionContext f) n = on-duties h f.0 _ (function_at h f.0) refl (λ x there. keeps status.Ok h (same-duties h))
+    on-duties h f.0 _ (tsfn_at h f.0) refl (λ x there. changed h status.Ok x _ None None there (refers false))
+answer-duties h who g (call.GetThreadsafeFunctionContext f) n = on-duties h f.0 _ (tsfn_at h f.0) refl (λ x there. keeps status.Ok h (same-duties h))
 answer-duties h who g _ n = tt
 
 given-duties : (h : Hub) (x : Entry) (c : Call) (g : Option Given) → x.what ≡ what.Call c → StepDuties h (given_step h x c g)
@@ -171,13 +171,13 @@ record MoveOf (k : ℕ) (fs : List FunctionState) (move : HubMove) : Type 0 wher
   pub function : FunctionState
   pub above : k ≤ function.id
   pub there : found (λ (f : FunctionState). f.id) function.id fs ≡ Some function
-  pub moves : function_move function ≡ Some move
+  pub moves : tsfn_move function ≡ Some move
 
 move-of : (late : Bool) (k : ℕ) (fs : List FunctionState) (move : HubMove) → AreSoundFrom late k fs → first_move fs ≡ Some move → MoveOf k fs move
 move-of late k [] move sound next = let no : ⊥ = cc in absurd no
-move-of late k (f ∷ fs) move sound next = by (function_move f) refl next (move-of late (suc k) fs move sound.2)
+move-of late k (f ∷ fs) move sound next = by (tsfn_move f) refl next (move-of late (suc k) fs move sound.2)
   where
-    by : (o : Option HubMove) → function_move f ≡ o → option_or o (first_move fs) ≡ Some move → (first_move fs ≡ Some move → MoveOf (suc k) fs move)
+    by : (o : Option HubMove) → tsfn_move f ≡ o → option_or o (first_move fs) ≡ Some move → (first_move fs ≡ Some move → MoveOf (suc k) fs move)
         → MoveOf k (f ∷ fs) move
     by (Some this) is next rest =
         let same : this ≡ move = cc in
@@ -198,11 +198,11 @@ move-of late k (f ∷ fs) move sound next = by (function_move f) refl next (move
 
 abbrev MoveDuties : Hub → HubMove → Type 0
 MoveDuties h (Delivers d) = HubDutyStep h None (Some d.duty) None d.status (with_delivered d h)
-MoveDuties h (Closes n) = HubDutyStep h None None None status.Ok (in_function n closed h)
-MoveDuties h (Finishes n) = HubDutyStep h None None None status.Ok (in_function n finished h)
+MoveDuties h (Closes n) = HubDutyStep h None None None status.Ok (in_tsfn n closed h)
+MoveDuties h (Finishes n) = HubDutyStep h None None None status.Ok (in_tsfn n finished h)
 
-function-duties : (h : Hub) (f : FunctionState) (s : TsfnState) (items : List ℕ) → function_at h f.id ≡ Some f → f.state ≡ s → f.items ≡ items
-    → IfSome (function_move_in f s items) (MoveDuties h)
+function-duties : (h : Hub) (f : FunctionState) (s : TsfnState) (items : List ℕ) → tsfn_at h f.id ≡ Some f → f.state ≡ s → f.items ≡ items
+    → IfSome (tsfn_move_in f s items) (MoveDuties h)
 function-duties h f Open [] there is items = by (f.count == 0)
   where
     by : (b : Bool) → IfSome (cond b (Some (Closes f.id)) None) (MoveDuties h)

@@ -19,7 +19,7 @@ use Rattle.napi_types.specs.plain.Lists.{found, head, tail, one}
 use Rattle.napi_types.specs.plain.Room.{need}
 use Rattle.napi_types.specs.parts.Functions.{FunctionState, with_item_taken, is_open, is_full_queue, full_status, call_status, called, acquire_status, acquired, release_status, closed_state, closed, released, first_taken, finished, done}
 use Rattle.napi_types.specs.hub.HistoryRoom.{state_places, function_places}
-use Rattle.napi_types.specs.hub.HubMoves.{HubMove, Delivers, Closes, Finishes, function_move_in, function_move, first_move}
+use Rattle.napi_types.specs.hub.HubMoves.{HubMove, Delivers, Closes, Finishes, tsfn_move_in, tsfn_move, first_move}
 use Rattle.napi_types.proofs.plain.Found.{apart-above, apart-below, same-self}
 use Rattle.napi_types.proofs.hub.HubCases.{Alters, calls, acquires, releases}
 
@@ -244,7 +244,8 @@ finished-falls drained f is items = record {
   room = rw is (omega (arith, finished-places f.finalizer));
 }
 
-move_in-falls : (drained : Bool) (f : FunctionState) (s : TsfnState) (items : List ℕ) → f.state ≡ s → f.items ≡ items → IfSome (function_move_in f s items) (MoveFalls drained f)
+move_in-falls : (drained : Bool) (f : FunctionState) (s : TsfnState) (items : List ℕ) → f.state ≡ s → f.items ≡ items
+    → IfSome (tsfn_move_in f s items) (MoveFalls drained f)
 move_in-falls drained f Open [] is items = by (f.count == 0)
   where
     by : (b : Bool) → IfSome (cond b (Some (Closes f.id)) None) (MoveFalls drained f)
@@ -265,7 +266,8 @@ pub record Moves (drained : Bool) (k : ℕ) (fs : List FunctionState) (move : Hu
 
 pub first-moves : (drained : Bool) (k : ℕ) (fs : List FunctionState) (move : HubMove) → AreSoundFrom drained k fs → first_move fs ≡ Some move → Moves drained k fs move
 first-moves drained k [] move sound next = let no : ⊥ = cc in absurd no
-first-moves drained k (f ∷ fs) move sound next = by (function_move f) (move_in-falls drained f f.state f.items refl refl) next (first-moves drained (suc k) fs move sound.2)
+first-moves drained k (f ∷ fs) move sound next =
+    by (tsfn_move f) (move_in-falls drained f f.state f.items refl refl) next (first-moves drained (suc k) fs move sound.2)
   where
     by : (o : Option HubMove) → IfSome o (MoveFalls drained f) → option_or o (first_move fs) ≡ Some move → (first_move fs ≡ Some move → Moves drained (suc k) fs move)
         → Moves drained k (f ∷ fs) move

@@ -26,7 +26,7 @@ use Rattle.napi_types.specs.hub.HistoryLaws.{LeadsTo}
 use Rattle.napi_types.specs.hub.HistoryRoom.{function_places, reserved_history}
 use Rattle.napi_types.specs.hub.Hub.{stage_places, Hub, Stage, Before, Going, Looped, Drained, Final, new_hub, stage_after, is_past_drain, threads_left, workers_left}
 use Rattle.napi_types.specs.hub.HubCalls.{new_function_number}
-use Rattle.napi_types.specs.hub.HubMoves.{HubMove, Delivers, Closes, Finishes, function_move_in, function_move, first_move, hub_move, in_function, without_duty, with_delivered, is_spent}
+use Rattle.napi_types.specs.hub.HubMoves.{HubMove, Delivers, Closes, Finishes, tsfn_move_in, tsfn_move, first_move, hub_move, in_tsfn, without_duty, with_delivered, is_spent}
 use Rattle.napi_types.specs.hub.GivenSteps.{is_looped, is_fresh_work, work_number}
 use Rattle.napi_types.specs.hub.HubEvents.{staged}
 use Rattle.napi_types.specs.hub.HubSteps.{IsHubNext, hub_step, hub_along}
@@ -80,13 +80,13 @@ delivered-sound h d sound next =
         let k : Moves (is_past_drain h.stage) 1 h.functions (Delivers d) = first-moves (is_past_drain h.stage) 1 h.functions (Delivers d) sound first in
         duty-sound (is_past_drain h.stage) h k.function d.duty k.among k.falls
 
-closes-sound : (h : Hub) (n : ℕ) → AreSound h → hub_move h ≡ Some (Closes n) → AreSound (in_function n closed h)
+closes-sound : (h : Hub) (n : ℕ) → AreSound h → hub_move h ≡ Some (Closes n) → AreSound (in_tsfn n closed h)
 closes-sound h n sound next =
     let k : Moves (is_past_drain h.stage) 1 h.functions (Closes n) =
     first-moves (is_past_drain h.stage) 1 h.functions (Closes n) sound (move-of_function h (first_completion h.pool) (Closes n) refl next (λ d first is. cc)) in
     rw k.falls.0 (k.among.kept closed k.falls.1.id (k.falls.1.sound k.among.sound))
 
-finishes-sound : (h : Hub) (n : ℕ) → AreSound h → hub_move h ≡ Some (Finishes n) → AreSound (in_function n finished h)
+finishes-sound : (h : Hub) (n : ℕ) → AreSound h → hub_move h ≡ Some (Finishes n) → AreSound (in_tsfn n finished h)
 finishes-sound h n sound next =
     let k : Moves (is_past_drain h.stage) 1 h.functions (Finishes n) =
     first-moves (is_past_drain h.stage) 1 h.functions (Finishes n) sound (move-of_function h (first_completion h.pool) (Finishes n) refl next (λ d first is. cc)) in
@@ -194,7 +194,8 @@ empty-none : {A : Type 0} (xs : List A) → is_empty xs ≡ true → length xs �
 empty-none [] is = refl
 empty-none (x ∷ xs) is = cc
 
-idle-places : (f : FunctionState) (s : TsfnState) (items : List ℕ) → f.state ≡ s → f.items ≡ items → IsSound true f → function_move_in f s items ≡ None → function_places f ≡ 0
+idle-places : (f : FunctionState) (s : TsfnState) (items : List ℕ) → f.state ≡ s → f.items ≡ items → IsSound true f → tsfn_move_in f s items ≡ None
+    → function_places f ≡ 0
 idle-places f Open items is same sound none = let no : true ≡ false = sym (ap is_open is) ∙ sound.shut refl in cc
 idle-places f Closing [] is same sound none = let no : ⊥ = cc in absurd no
 idle-places f Closing (payload ∷ later) is same sound none = let no : ⊥ = cc in absurd no
@@ -205,9 +206,10 @@ idle-places f Done items is same sound none =
 
 no-places : (k : ℕ) (fs : List FunctionState) → AreSoundFrom true k fs → first_move fs ≡ None → sum_by function_places fs ≡ 0
 no-places k [] sound none = refl
-no-places k (f ∷ fs) sound none = by (function_move f) refl none (no-places (suc k) fs sound.2)
+no-places k (f ∷ fs) sound none = by (tsfn_move f) refl none (no-places (suc k) fs sound.2)
   where
-    by : (o : Option HubMove) → function_move f ≡ o → option_or o (first_move fs) ≡ None → (first_move fs ≡ None → sum_by function_places fs ≡ 0) → sum_by function_places (f ∷ fs) ≡ 0
+    by : (o : Option HubMove) → tsfn_move f ≡ o → option_or o (first_move fs) ≡ None → (first_move fs ≡ None → sum_by function_places fs ≡ 0)
+        → sum_by function_places (f ∷ fs) ≡ 0
     by None idle none rest = omega (arith, sum_by-cons function_places f fs, idle-places f f.state f.items refl refl sound.1 idle, rest none)
     by (Some move) idle none rest = let no : ⊥ = cc in absurd no
 

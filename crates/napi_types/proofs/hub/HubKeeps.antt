@@ -22,7 +22,7 @@ use Rattle.napi_types.specs.parts.Pool.{work_refusal, executed_by}
 use Rattle.napi_types.specs.parts.Works.{is_created, is_queued, is_deletable}
 use Rattle.napi_types.specs.hub.HistoryLaws.{KeepsStanding}
 use Rattle.napi_types.specs.hub.Hub.{Hub}
-use Rattle.napi_types.specs.hub.HubCalls.{is_thread_call, hub_answer, unless_refused, on_function, function_at, call_answer, called_answer}
+use Rattle.napi_types.specs.hub.HubCalls.{is_thread_call, hub_answer, unless_refused, on_function, tsfn_at, call_answer, called_answer}
 use Rattle.napi_types.specs.hub.HubMoves.{HubMove, Delivers, Closes, Finishes, hub_move}
 use Rattle.napi_types.specs.hub.HubStep.{answered_step}
 use Rattle.napi_types.specs.hub.GivenSteps.{given_step, work_number, answer_unless_given}
@@ -61,12 +61,17 @@ answer-keeps h who g (call.DeleteAsyncWork w) n =
 answer-keeps h who g (call.CancelAsyncWork w) n = unless-keeps h (work_refusal is_queued h.pool w.0) _ (record { stage = refl; standing = refl; threads = refl; workers = refl })
 answer-keeps h who g (call.QueueAsyncWork w) n = unless-keeps h (work_refusal is_created h.pool w.0) _ (record { stage = refl; standing = refl; threads = refl; workers = refl })
 answer-keeps h who g (call.CreateThreadsafeFunction f entry maximum count finalizer context) n = record { stage = refl; standing = refl; threads = refl; workers = refl }
-answer-keeps h who g (call.CallThreadsafeFunction f payload m) n = called-keeps h who payload m (function_at h f.0)
-answer-keeps h who g (call.AcquireThreadsafeFunction f) n = on-keeps h _ (function_at h f.0) (λ x. record { stage = refl; standing = refl; threads = refl; workers = refl })
-answer-keeps h who g (call.ReleaseThreadsafeFunction f m) n = on-keeps h _ (function_at h f.0) (λ x. record { stage = refl; standing = refl; threads = refl; workers = refl })
-answer-keeps h who g (call.RefThreadsafeFunction f) n = on-keeps h _ (function_at h f.0) (λ x. record { stage = refl; standing = refl; threads = refl; workers = refl })
-answer-keeps h who g (call.UnrefThreadsafeFunction f) n = on-keeps h _ (function_at h f.0) (λ x. record { stage = refl; standing = refl; threads = refl; workers = refl })
-answer-keeps h who g (call.GetThreadsafeFunctionContext f) n = on-keeps h _ (function_at h f.0) (λ x. record { stage = refl; standing = refl; threads = refl; workers = refl })
+answer-keeps h who g (call.CallThreadsafeFunction f payload m) n = called-keeps h who payload m (tsfn_at h f.0)
+answer-keeps h who g (call.AcquireThreadsafeFunction f) n =
+    on-keeps h _ (tsfn_at h f.0) (λ x. record { stage = refl; standing = refl; threads = refl; workers = refl })
+answer-keeps h who g (call.ReleaseThreadsafeFunction f m) n =
+    on-keeps h _ (tsfn_at h f.0) (λ x. record { stage = refl; standing = refl; threads = refl; workers = refl })
+answer-keeps h who g (call.RefThreadsafeFunction f) n =
+    on-keeps h _ (tsfn_at h f.0) (λ x. record { stage = refl; standing = refl; threads = refl; workers = refl })
+answer-keeps h who g (call.UnrefThreadsafeFunction f) n =
+    on-keeps h _ (tsfn_at h f.0) (λ x. record { stage = refl; standing = refl; threads = refl; workers = refl })
+answer-keeps h who g (call.GetThreadsafeFunctionContext f) n =
+    on-keeps h _ (tsfn_at h f.0) (λ x. record { stage = refl; standing = refl; threads = refl; workers = refl })
 answer-keeps h who g _ n = tt
 
 pub answered-keeps : (h : Hub) (x : Entry) (may : Bool) (o : Option (Answer Hub)) → AnswerKeeps h o → KeepsStanding h (answered_step h x may o).after

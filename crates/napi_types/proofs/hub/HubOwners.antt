@@ -34,8 +34,8 @@ use Rattle.napi_types.specs.parts.Functions.{FunctionState, first_taken, with_it
 use Rattle.napi_types.specs.parts.Pool.{WorkPool, work_refusal, with_work, with_queued, cancelled_at, number_of_work, started_from, finished_at, executed_by, work_numbered, first_completion, completion_info}
 use Rattle.napi_types.specs.parts.Works.{Work, Outcome, has_work_number, is_created, is_queued, is_deletable}
 use Rattle.napi_types.specs.hub.Hub.{Hub}
-use Rattle.napi_types.specs.hub.HubCalls.{hub_answer, unless_refused, on_function, function_at, call_answer, called_answer, no_target, is_thread_call}
-use Rattle.napi_types.specs.hub.HubMoves.{HubMove, Delivers, Closes, Finishes, function_move_in, first_move, hub_move, in_function, without_duty}
+use Rattle.napi_types.specs.hub.HubCalls.{hub_answer, unless_refused, on_function, tsfn_at, call_answer, called_answer, no_target, is_thread_call}
+use Rattle.napi_types.specs.hub.HubMoves.{HubMove, Delivers, Closes, Finishes, tsfn_move_in, first_move, hub_move, in_tsfn, without_duty}
 use Rattle.napi_types.specs.hub.HubOwners.{IsFunctionOf, IsOwnedHub}
 use Rattle.napi_types.specs.hub.HubStep.{answered_step}
 use Rattle.napi_types.specs.hub.GivenSteps.{given_step, answer_unless_given, work_number}
@@ -99,7 +99,7 @@ changed-owned n k change fs keeps all = All-map (IsOurFunction n) _ fs (All-weak
     by : (f : FunctionState) → IsOurFunction n f → IsOurFunction n (cond (f.id == k) (change f) f)
     by f h = at (f.id == k) f h
 
-function-owned : (n k : ℕ) (change : FunctionState → FunctionState) (h : Hub) → KeepsOwner change → IsOwnedHub n h → IsOwnedHub n (in_function k change h)
+function-owned : (n k : ℕ) (change : FunctionState → FunctionState) (h : Hub) → KeepsOwner change → IsOwnedHub n h → IsOwnedHub n (in_tsfn k change h)
 function-owned n k change h keeps o = record { works = o.works; functions = changed-owned n k change h.functions keeps o.functions }
 
 keeps-called : (s : Status) (payload : ℕ) → KeepsOwner (called (Some s) payload)
@@ -169,16 +169,16 @@ answer-owned n h who g (call.QueueAsyncWork w) k gives o =
     unless-owned n h (work_refusal is_created h.pool w.0) _ o (record { works = queued-owned n w.0 h.pool o.works; functions = o.functions })
 answer-owned n h who g (call.CreateThreadsafeFunction f entry maximum count finalizer context) k gives o =
     record { works = o.works; functions = All-push (IsOurFunction n) h.functions _ o.functions (record { creator = (gives refl).addon; target = (gives refl).target }) }
-answer-owned n h who g (call.CallThreadsafeFunction f payload m) k gives o = called-owned n h who payload m (function_at h f.0) o
+answer-owned n h who g (call.CallThreadsafeFunction f payload m) k gives o = called-owned n h who payload m (tsfn_at h f.0) o
 answer-owned n h who g (call.AcquireThreadsafeFunction f) k gives o =
-    on-owned n h _ (function_at h f.0) o (λ x. function-owned n x.id (acquired (acquire_status x)) h (keeps-acquired (acquire_status x)) o)
+    on-owned n h _ (tsfn_at h f.0) o (λ x. function-owned n x.id (acquired (acquire_status x)) h (keeps-acquired (acquire_status x)) o)
 answer-owned n h who g (call.ReleaseThreadsafeFunction f m) k gives o =
-    on-owned n h _ (function_at h f.0) o (λ x. function-owned n x.id (released (release_status x) m) h (keeps-released (release_status x) m) o)
+    on-owned n h _ (tsfn_at h f.0) o (λ x. function-owned n x.id (released (release_status x) m) h (keeps-released (release_status x) m) o)
 answer-owned n h who g (call.RefThreadsafeFunction f) k gives o =
-    on-owned n h _ (function_at h f.0) o (λ x. function-owned n x.id (with_referenced true) h (λ i y here. keeps-plainly i y _ refl refl here) o)
+    on-owned n h _ (tsfn_at h f.0) o (λ x. function-owned n x.id (with_referenced true) h (λ i y here. keeps-plainly i y _ refl refl here) o)
 answer-owned n h who g (call.UnrefThreadsafeFunction f) k gives o =
-    on-owned n h _ (function_at h f.0) o (λ x. function-owned n x.id (with_referenced false) h (λ i y here. keeps-plainly i y _ refl refl here) o)
-answer-owned n h who g (call.GetThreadsafeFunctionContext f) k gives o = on-owned n h _ (function_at h f.0) o (λ x. o)
+    on-owned n h _ (tsfn_at h f.0) o (λ x. function-owned n x.id (with_referenced false) h (λ i y here. keeps-plainly i y _ refl refl here) o)
+answer-owned n h who g (call.GetThreadsafeFunctionContext f) k gives o = on-owned n h _ (tsfn_at h f.0) o (λ x. o)
 answer-owned n h who g _ k gives o = tt
 
 -- EACH STEP OF THE HUB
@@ -308,17 +308,17 @@ completion-owned n (Some k) p all = by p.works all
     by [] all = tt
     by (w ∷ ws) all = at w ws (has_work_number k.work w) (All-head (Made n) w ws all) (by ws (All-tail (Made n) w ws all))
 
-function_move-owned : (n : ℕ) (f : FunctionState) (s : TsfnState) (items : List ℕ) → IsOurFunction n f → MoveOwned n (function_move_in f s items)
-function_move-owned n f Open [] o = by (f.count == 0)
+tsfn_move-owned : (n : ℕ) (f : FunctionState) (s : TsfnState) (items : List ℕ) → IsOurFunction n f → MoveOwned n (tsfn_move_in f s items)
+tsfn_move-owned n f Open [] o = by (f.count == 0)
   where
     by : (b : Bool) → MoveOwned n (cond b (Some (Closes f.id)) None)
     by true = tt
     by false = tt
-function_move-owned n f Open (p ∷ ps) o = o.target
-function_move-owned n f Closing [] o = tt
-function_move-owned n f Closing (p ∷ ps) o = o.target
-function_move-owned n f Finished items o = o.creator
-function_move-owned n f Done items o = tt
+tsfn_move-owned n f Open (p ∷ ps) o = o.target
+tsfn_move-owned n f Closing [] o = tt
+tsfn_move-owned n f Closing (p ∷ ps) o = o.target
+tsfn_move-owned n f Finished items o = o.creator
+tsfn_move-owned n f Done items o = tt
 
 either-owned : (n : ℕ) (a b : Option HubMove) → MoveOwned n a → MoveOwned n b → MoveOwned n (option_or a b)
 either-owned n None b h k = k
@@ -327,7 +327,8 @@ either-owned n (Some m) b h k = h
 first-owned : (n : ℕ) (fs : List FunctionState) → All (IsOurFunction n) fs → MoveOwned n (first_move fs)
 first-owned n [] all = tt
 first-owned n (f ∷ fs) all =
-    either-owned n (function_move_in f f.state f.items) (first_move fs) (function_move-owned n f f.state f.items (All-head (IsOurFunction n) f fs all)) (first-owned n fs (All-tail (IsOurFunction n) f fs all))
+    either-owned n (tsfn_move_in f f.state f.items) (first_move fs) (tsfn_move-owned n f f.state f.items (All-head (IsOurFunction n) f fs all))
+    (first-owned n fs (All-tail (IsOurFunction n) f fs all))
 
 pub move-owned : (n : ℕ) (h : Hub) → IsOwnedHub n h → MoveOwned n (hub_move h)
 move-owned n h o =

@@ -24,7 +24,7 @@ use Rattle.napi_types.specs.parts.Works.{Work, WorkState, Created, Queued, Runni
 use Rattle.napi_types.specs.hub.HistoryRoom.{work_places, function_places, reserved_history}
 use Rattle.napi_types.specs.hub.Hub.{stage_places, Hub, Stage, Before, Going, Looped, Drained, stage_after, left_of, threads_left, workers_left}
 use Rattle.napi_types.specs.hub.HubCalls.{new_function_number}
-use Rattle.napi_types.specs.hub.HubMoves.{HubMove, Delivers, Closes, Finishes, first_move, hub_move, in_pool, in_function, without_duty, with_delivered}
+use Rattle.napi_types.specs.hub.HubMoves.{HubMove, Delivers, Closes, Finishes, first_move, hub_move, in_pool, in_tsfn, without_duty, with_delivered}
 use Rattle.napi_types.specs.hub.GivenSteps.{is_looped, work_number}
 use Rattle.napi_types.specs.hub.HubEvents.{staged, drained_hub}
 use Rattle.napi_types.proofs.plain.Conditions.{and-left}
@@ -211,10 +211,11 @@ in-functions-room h fs a b fits =
 
 -- a function among them is changed
 in-function-room : (late : Bool) (h : Hub) (f : FunctionState) (change : FunctionState → FunctionState) (a b : ℕ) → IsAmong late 1 h.functions f
-    → function_places (change f) + a ≤ function_places f + b → reserved_history (in_function f.id change h) + a ≤ reserved_history h + b
+    → function_places (change f) + a ≤ function_places f + b → reserved_history (in_tsfn f.id change h) + a ≤ reserved_history h + b
 in-function-room late h f change a b among fits =
-    in-functions-room h (in_function f.id change h).functions a b
-    (by (sum_by function_places h.functions) (sum_by function_places (in_function f.id change h).functions) (function_places f) (function_places (change f)) (among.places change) fits)
+    in-functions-room h (in_tsfn f.id change h).functions a b
+    (by (sum_by function_places h.functions) (sum_by function_places (in_tsfn f.id change h).functions) (function_places f) (function_places (change f))
+    (among.places change) fits)
   where
     by : (s t p q : ℕ) → t + p ≡ s + q → q + a ≤ p + b → t + a ≤ s + b
     by s t p q same fits = omega (arith, same, fits)
@@ -295,13 +296,15 @@ delivered-room late h d sound next alone = standing-room h (without_duty d.duty 
         let k : Moves late 1 h.functions (Delivers d) = first-moves late 1 h.functions (Delivers d) sound first in
         duty-room late h k.function d.duty k.among k.falls
 
-closes-room : (late : Bool) (h : Hub) (n : ℕ) → AreSoundFrom late 1 h.functions → hub_move h ≡ Some (Closes n) → reserved_history (in_function n closed h) + 1 ≤ reserved_history h + 0
+closes-room : (late : Bool) (h : Hub) (n : ℕ) → AreSoundFrom late 1 h.functions → hub_move h ≡ Some (Closes n)
+    → reserved_history (in_tsfn n closed h) + 1 ≤ reserved_history h + 0
 closes-room late h n sound next =
     let k : Moves late 1 h.functions (Closes n) =
     first-moves late 1 h.functions (Closes n) sound (move-of_function h (first_completion h.pool) (Closes n) refl next (λ d first is. cc)) in
     rw k.falls.0 (in-function-room late h k.function closed 1 0 k.among (omega (arith, k.falls.1.room)))
 
-finishes-room : (late : Bool) (h : Hub) (n : ℕ) → AreSoundFrom late 1 h.functions → hub_move h ≡ Some (Finishes n) → reserved_history (in_function n finished h) + 1 ≤ reserved_history h + 0
+finishes-room : (late : Bool) (h : Hub) (n : ℕ) → AreSoundFrom late 1 h.functions → hub_move h ≡ Some (Finishes n)
+    → reserved_history (in_tsfn n finished h) + 1 ≤ reserved_history h + 0
 finishes-room late h n sound next =
     let k : Moves late 1 h.functions (Finishes n) =
     first-moves late 1 h.functions (Finishes n) sound (move-of_function h (first_completion h.pool) (Finishes n) refl next (λ d first is. cc)) in
@@ -400,7 +403,7 @@ late-room late h x told _ is_late looped sound (creates_function f entry maximum
 late-room late h x told _ is_late looped sound (alters c k f change is there (calls g payload m who s tells)) =
     let among : IsAmong late 1 h.functions f = found-among late 1 k h.functions f sound there in
     let never : s ≡ status.Ok → ⊥ = λ ok. let no : false ≡ true = sym (among.sound.shut is_late) ∙ called-open who m f (tells ∙ ap Some ok) in cc in
-    no-more (reserved_history (in_function f.id change h)) (reserved_history h) (in-function-room late h f change 0 0 among (called-late f payload s never))
+    no-more (reserved_history (in_tsfn f.id change h)) (reserved_history h) (in-function-room late h f change 0 0 among (called-late f payload s never))
 late-room late h x told _ is_late looped sound (alters c k f change is there (acquires g)) = one-place _ _ x (what.Call c) is (omega arith) (hub-room late h x told _ sound (alters c k f change is there (acquires g)))
 late-room late h x told _ is_late looped sound (alters c k f change is there (releases g m)) = one-place _ _ x (what.Call c) is (omega arith) (hub-room late h x told _ sound (alters c k f change is there (releases g m)))
 late-room late h x told _ is_late looped sound (alters c k f change is there (references g)) = one-place _ _ x (what.Call c) is (omega arith) (hub-room late h x told _ sound (alters c k f change is there (references g)))

@@ -7,7 +7,7 @@ use Rattle.napi_types.specs.declared.status.Status.TheVariants as status
 use Rattle.napi_types.specs.parts.Functions.{FunctionState, is_open, is_full_queue, full_status, call_status}
 use Rattle.napi_types.specs.hub.HistoryLaws.{NoCallWaitsFromTheDrainOn}
 use Rattle.napi_types.specs.hub.Hub.{Hub, is_past_drain}
-use Rattle.napi_types.specs.hub.HubCalls.{function_at, called_answer, call_answer}
+use Rattle.napi_types.specs.hub.HubCalls.{tsfn_at, called_answer, call_answer}
 use Rattle.napi_types.proofs.hub.HubFunctions.{IsAmong, found-among}
 use Rattle.napi_types.proofs.hub.HubHolds.{AreSound, led-sound}
 
@@ -25,7 +25,7 @@ pub told-answer : (h : Hub) (payload : ℕ) (f : FunctionState) (s : Option Stat
 told-answer h payload f None some = cc
 told-answer h payload f (Some s) some = refl
 
-function-answers : (h : Hub) (who : Actor) (k payload : ℕ) (m : Mode) (o : Option FunctionState) → AreSound h → is_past_drain h.stage ≡ true → function_at h k ≡ o
+function-answers : (h : Hub) (who : Actor) (k payload : ℕ) (m : Mode) (o : Option FunctionState) → AreSound h → is_past_drain h.stage ≡ true → tsfn_at h k ≡ o
     → is_some (call_answer h who payload m o) ≡ true
 function-answers h who k payload m None sound late there = refl
 function-answers h who k payload m (Some f) sound late there =
@@ -34,4 +34,4 @@ function-answers h who k payload m (Some f) sound late there =
 
 pub no-call-waits : NoCallWaitsFromTheDrainOn
 no-call-waits limit threads workers history h who g f payload m led late =
-    function-answers h who f.0 payload m (function_at h f.0) (led-sound limit threads workers history h led).functions late refl
+    function-answers h who f.0 payload m (tsfn_at h f.0) (led-sound limit threads workers history h led).functions late refl

@@ -15,7 +15,7 @@ use Rattle.napi_types.specs.parts.Functions.{FunctionState, call_status, accepte
 use Rattle.napi_types.specs.parts.Pool.{WorkPool, work_at, work_refusal, state_refusal, work_state}
 use Rattle.napi_types.specs.parts.Works.{Work, WorkState, is_deletable, is_queued, is_created}
 use Rattle.napi_types.specs.hub.Hub.{Hub}
-use Rattle.napi_types.specs.hub.HubCalls.{unless_refused, on_function, function_at, called_answer, item_made, hub_answer, call_answer}
+use Rattle.napi_types.specs.hub.HubCalls.{unless_refused, on_function, tsfn_at, called_answer, item_made, hub_answer, call_answer}
 use Rattle.napi_types.specs.hub.MadeDuties.{MakesAsAnswered, duty_of_call, AnswersMakeTheirDuty, NoWorkRefusalAccepts}
 
 -- REFUSALS
@@ -80,7 +80,8 @@ answers-make h who g (call.QueueAsyncWork w) n =
 answers-make h who g (call.CreateThreadsafeFunction f entry maximum count finalizer context) n =
     makes-it h (call.CreateThreadsafeFunction f entry maximum count finalizer context) _ refl refl
 answers-make h who g (call.CallThreadsafeFunction f payload m) n =
-    by (call_answer h who payload m (function_at h f.0)) (called-makes h who f.0 payload m (function_at h f.0) (duty_of_call h (call.CallThreadsafeFunction f payload m)) refl)
+    by (call_answer h who payload m (tsfn_at h f.0))
+    (called-makes h who f.0 payload m (tsfn_at h f.0) (duty_of_call h (call.CallThreadsafeFunction f payload m)) refl)
   where
     by : (o : Option (Answer Hub))
         → IfSome o (λ a. (a.reply.status ≡ status.Ok → a.reply.made ≡ duty_of_call h (call.CallThreadsafeFunction f payload m)) × (a.reply.status ≢ status.Ok → a.reply.made ≡ None))
@@ -88,15 +89,15 @@ answers-make h who g (call.CallThreadsafeFunction f payload m) n =
     by None tells = tt
     by (Some a) tells = record { accepted = tells.0; refused = tells.1 }
 answers-make h who g (call.AcquireThreadsafeFunction f) n =
-    function-makes h (call.AcquireThreadsafeFunction f) _ (function_at h f.0) (λ x. makes-none h (call.AcquireThreadsafeFunction f) _ refl (λ ok. refl))
+    function-makes h (call.AcquireThreadsafeFunction f) _ (tsfn_at h f.0) (λ x. makes-none h (call.AcquireThreadsafeFunction f) _ refl (λ ok. refl))
 answers-make h who g (call.ReleaseThreadsafeFunction f m) n =
-    function-makes h (call.ReleaseThreadsafeFunction f m) _ (function_at h f.0) (λ x. makes-none h (call.ReleaseThreadsafeFunction f m) _ refl (λ ok. refl))
+    function-makes h (call.ReleaseThreadsafeFunction f m) _ (tsfn_at h f.0) (λ x. makes-none h (call.ReleaseThreadsafeFunction f m) _ refl (λ ok. refl))
 answers-make h who g (call.RefThreadsafeFunction f) n =
-    function-makes h (call.RefThreadsafeFunction f) _ (function_at h f.0) (λ x. makes-none h (call.RefThreadsafeFunction f) _ refl (λ ok. refl))
+    function-makes h (call.RefThreadsafeFunction f) _ (tsfn_at h f.0) (λ x. makes-none h (call.RefThreadsafeFunction f) _ refl (λ ok. refl))
 answers-make h who g (call.UnrefThreadsafeFunction f) n =
-    function-makes h (call.UnrefThreadsafeFunction f) _ (function_at h f.0) (λ x. makes-none h (call.UnrefThreadsafeFunction f) _ refl (λ ok. refl))
+    function-makes h (call.UnrefThreadsafeFunction f) _ (tsfn_at h f.0) (λ x. makes-none h (call.UnrefThreadsafeFunction f) _ refl (λ ok. refl))
 answers-make h who g (call.GetThreadsafeFunctionContext f) n =
-    function-makes h (call.GetThreadsafeFunctionContext f) _ (function_at h f.0) (λ x. makes-none h (call.GetThreadsafeFunctionContext f) _ refl (λ ok. refl))
+    function-makes h (call.GetThreadsafeFunctionContext f) _ (tsfn_at h f.0) (λ x. makes-none h (call.GetThreadsafeFunctionContext f) _ refl (λ ok. refl))
 answers-make h who g _ n = tt
 
 pub answers-make-their-duty : AnswersMakeTheirDuty

@@ -26,7 +26,7 @@ use Rattle.napi_types.specs.hub.HistoryLaws.{OthersLowerNothing}
 use Rattle.napi_types.specs.hub.HistoryRoom.{state_places, work_places, function_places, reserved_history}
 use Rattle.napi_types.specs.hub.Hub.{stage_places, Hub, left_of, threads_left, workers_left, is_past_drain}
 use Rattle.napi_types.specs.hub.HubCalls.{is_thread_call}
-use Rattle.napi_types.specs.hub.HubMoves.{in_function}
+use Rattle.napi_types.specs.hub.HubMoves.{in_tsfn}
 use Rattle.napi_types.specs.hub.ThreadSteps.{thread_step, thread_event}
 use Rattle.napi_types.specs.hub.WorkerSteps.{worker_step, worker_event}
 use Rattle.napi_types.specs.hub.HubSteps.{IsHubNext, hub_step, hub_step_of}
@@ -130,10 +130,10 @@ alters-lowers-nothing f _ _ (releases n m) = released-lowers-nothing f (release_
 alters-lowers-nothing f _ _ _ = omega arith
 
 function-lowers-nothing : (late : Bool) (h : Hub) (f : FunctionState) (change : FunctionState → FunctionState) → IsAmong late 1 h.functions f
-    → function_places f ≤ function_places (change f) + 1 → LowersNothing h (in_function f.id change h)
+    → function_places f ≤ function_places (change f) + 1 → LowersNothing h (in_tsfn f.id change h)
 function-lowers-nothing late h f change among fits =
-    functions-lowers-nothing h (in_function f.id change h).functions
-    (by (sum_by function_places h.functions) (sum_by function_places (in_function f.id change h).functions) (function_places f)
+    functions-lowers-nothing h (in_tsfn f.id change h).functions
+    (by (sum_by function_places h.functions) (sum_by function_places (in_tsfn f.id change h).functions) (function_places f)
     (function_places (change f)) (among.places change) fits)
   where
     by : (s t p q : ℕ) → t + p ≡ s + q → p ≤ q + 1 → s ≤ t + 1

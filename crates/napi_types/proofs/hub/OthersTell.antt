@@ -17,7 +17,7 @@ use Rattle.napi_types.specs.plain.Entries.{is_environment}
 use Rattle.napi_types.specs.parts.Functions.{FunctionState, call_status, acquire_status, acquired, release_status, released}
 use Rattle.napi_types.specs.parts.Pool.{executed_by}
 use Rattle.napi_types.specs.hub.Hub.{Hub}
-use Rattle.napi_types.specs.hub.HubCalls.{called_answer, call_answer, answered, on_function, function_at, is_thread_call}
+use Rattle.napi_types.specs.hub.HubCalls.{called_answer, call_answer, answered, on_function, tsfn_at, is_thread_call}
 use Rattle.napi_types.specs.hub.HubStep.{answered_step}
 use Rattle.napi_types.specs.hub.HubSteps.{hub_step_of}
 use Rattle.napi_types.specs.hub.ThreadSteps.{thread_step, thread_call_step, is_thread_there, is_thread_end}
@@ -53,9 +53,11 @@ release-out h x may m (Some f) = refl
 
 thread-call-out : (h : Hub) (t : ℕ) (x : Entry) (c : Call) → is_thread_call c ≡ true → IsTrue (thread_call_step h t x c).may → tells_begin (thread_call_step h t x c).entry.reply.out ≡ false
 thread-call-out h t x (call.CallThreadsafeFunction f payload m) is may =
-    call-out h (actor.Thread t) payload m (function_at h f.0) (record x { depth = 0; given = None }) (is_thread_there h t && true) may
-thread-call-out h t x (call.AcquireThreadsafeFunction f) is may = acquire-out h (record x { depth = 0; given = None }) (is_thread_there h t && true) (function_at h f.0)
-thread-call-out h t x (call.ReleaseThreadsafeFunction f m) is may = release-out h (record x { depth = 0; given = None }) (is_thread_there h t && true) m (function_at h f.0)
+    call-out h (actor.Thread t) payload m (tsfn_at h f.0) (record x { depth = 0; given = None }) (is_thread_there h t && true) may
+thread-call-out h t x (call.AcquireThreadsafeFunction f) is may =
+    acquire-out h (record x { depth = 0; given = None }) (is_thread_there h t && true) (tsfn_at h f.0)
+thread-call-out h t x (call.ReleaseThreadsafeFunction f m) is may =
+    release-out h (record x { depth = 0; given = None }) (is_thread_there h t && true) m (tsfn_at h f.0)
 thread-call-out h t x _ is may = cc
 
 -- EVENTS

@@ -14,8 +14,8 @@ use Rattle.napi_types.specs.parts.Functions.{FunctionState, is_open, is_full_que
 use Rattle.napi_types.specs.parts.Pool.{executed_by, first_completion}
 use Rattle.napi_types.specs.parts.Works.{Execution}
 use Rattle.napi_types.specs.hub.Hub.{Hub, left_of, threads_left, workers_left}
-use Rattle.napi_types.specs.hub.HubCalls.{function_at, call_answer}
-use Rattle.napi_types.specs.hub.HubMoves.{Delivers, function_move_in, function_move, first_move, hub_move, is_quiet, is_spent}
+use Rattle.napi_types.specs.hub.HubCalls.{tsfn_at, call_answer}
+use Rattle.napi_types.specs.hub.HubMoves.{Delivers, tsfn_move_in, tsfn_move, first_move, hub_move, is_quiet, is_spent}
 use Rattle.napi_types.specs.hub.ThreadSteps.{is_gone_on}
 use Rattle.napi_types.specs.hub.Waits.{waits_at, SomebodyGoesOn}
 use Rattle.napi_types.proofs.plain.Found.{same-self, found-first}
@@ -27,16 +27,16 @@ use Rattle.napi_types.proofs.hub.ServingWorkers.{IsServing}
 -- NO CALL WAITS
 -- where no function has a move, the one of this number has none
 none-moves : (n : ℕ) (fs : List FunctionState) (f : FunctionState) → found (λ (g : FunctionState). g.id) n fs ≡ Some f → first_move fs ≡ None
-    → function_move f ≡ None
+    → tsfn_move f ≡ None
 none-moves n [] f there none = cc
-none-moves n (g ∷ fs) f there none = by (g.id == n) there (λ is. none-moves n fs f is (none-last (function_move g) (first_move fs) none))
+none-moves n (g ∷ fs) f there none = by (g.id == n) there (λ is. none-moves n fs f is (none-last (tsfn_move g) (first_move fs) none))
   where
     same : (a b : FunctionState) → Some a ≡ Some b → a ≡ b
     same a b e = cc
 
     by : (b : Bool) → cond b (Some g) (found (λ (x : FunctionState). x.id) n fs) ≡ Some f
-        → (found (λ (x : FunctionState). x.id) n fs ≡ Some f → function_move f ≡ None) → function_move f ≡ None
-    by true is rest = subst (λ (x : FunctionState). function_move x ≡ None) (same g f is) (none-first (function_move g) (first_move fs) none)
+        → (found (λ (x : FunctionState). x.id) n fs ≡ Some f → tsfn_move f ≡ None) → tsfn_move f ≡ None
+    by true is rest = subst (λ (x : FunctionState). tsfn_move x ≡ None) (same g f is) (none-first (tsfn_move g) (first_move fs) none)
     by false is rest = rest is
 
 open-state : (s : TsfnState) → is_open s ≡ true → s ≡ Open
@@ -46,7 +46,7 @@ open-state Finished is = cc
 open-state Done is = cc
 
 -- an open function whose queue is full has an item to deliver
-full-moves : (f : FunctionState) → is_open f.state ≡ true → function_move f ≡ None → is_full_queue f ≡ false
+full-moves : (f : FunctionState) → is_open f.state ≡ true → tsfn_move f ≡ None → is_full_queue f ≡ false
 full-moves f opened none = by f.items refl
   where
     empty : (m : ℕ) → (nat_lt 0 m && (0 == m)) ≡ false
@@ -56,11 +56,11 @@ full-moves f opened none = by f.items refl
     by [] is = ap (λ (l : List ℕ). nat_lt 0 f.maximum && (length l == f.maximum)) is ∙ empty f.maximum
     by (payload ∷ later) is =
         let moves : Some (Delivers _) ≡ None =
-        sym (ap (function_move_in f f.state) is ∙ ap (λ (s : TsfnState). function_move_in f s (payload ∷ later)) (open-state f.state opened)) ∙ none in
+        sym (ap (tsfn_move_in f f.state) is ∙ ap (λ (s : TsfnState). tsfn_move_in f s (payload ∷ later)) (open-state f.state opened)) ∙ none in
         cc
 
 -- so one that has no move answers each call at once
-still-answers : (who : Actor) (m : Mode) (f : FunctionState) → function_move f ≡ None → is_some (call_status who m f) ≡ true
+still-answers : (who : Actor) (m : Mode) (f : FunctionState) → tsfn_move f ≡ None → is_some (call_status who m f) ≡ true
 still-answers who m f none = by (f.count == 0) (is_open f.state) refl
   where
     at : (b : Bool) → b ≡ false → is_some (cond b (full_status who m) (Some status.Ok)) ≡ true
@@ -74,7 +74,7 @@ still-answers who m f none = by (f.count == 0) (is_open f.state) refl
     by false false is = refl
     by false true is = at (is_full_queue f) (full-moves f is none)
 
-call-answered : (h : Hub) (who : Actor) (k payload : ℕ) (m : Mode) (o : Option FunctionState) → function_at h k ≡ o → first_move h.functions ≡ None
+call-answered : (h : Hub) (who : Actor) (k payload : ℕ) (m : Mode) (o : Option FunctionState) → tsfn_at h k ≡ o → first_move h.functions ≡ None
     → is_some (call_answer h who payload m o) ≡ true
 call-answered h who k payload m None there none = refl
 call-answered h who k payload m (Some f) there none =
@@ -86,8 +86,8 @@ some-is (Some x) some = refl
 
 pub none-waits : (h : Hub) (t : ℕ) (c : Call) → hub_move h ≡ None → waits_at h t c ≡ false
 none-waits h t (call.CallThreadsafeFunction f payload m) none =
-    some-is (call_answer h (actor.Thread t) payload m (function_at h f.0))
-    (call-answered h (actor.Thread t) f.0 payload m (function_at h f.0) refl
+    some-is (call_answer h (actor.Thread t) payload m (tsfn_at h f.0))
+    (call-answered h (actor.Thread t) f.0 payload m (tsfn_at h f.0) refl
     (none-last (option_map Delivers (first_completion h.pool)) (first_move h.functions) none))
 none-waits h t _ none = refl
 

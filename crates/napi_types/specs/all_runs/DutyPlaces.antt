@@ -9,7 +9,7 @@ use Rattle.napi_types.specs.parts.Book.{Book, is_owed, is_at}
 use Rattle.napi_types.specs.parts.Functions.{FunctionState, accepted_items, is_done}
 use Rattle.napi_types.specs.parts.Pool.{WorkPool}
 use Rattle.napi_types.specs.hub.Hub.{Hub}
-use Rattle.napi_types.specs.hub.HubCalls.{function_at}
+use Rattle.napi_types.specs.hub.HubCalls.{tsfn_at}
 use Rattle.napi_types.specs.runs.Machine.{Machine}
 use Rattle.napi_types.specs.all_runs.Counts.{made, dropped, begun}
 
@@ -35,8 +35,8 @@ function_passes test (Some f) = test f
 abbrev pub places_in_hub : Hub → Duty → ℕ
 places_in_hub h (duty.Ticket t) = 0
 places_in_hub h (duty.Work n) = places_in_pool n h.pool
-places_in_hub h (duty.Item f n) = one_if (function_passes (has_item n) (function_at h f.0))
-places_in_hub h (duty.Function f) = one_if (function_passes owes_finalizer (function_at h f.0))
+places_in_hub h (duty.Item f n) = one_if (function_passes (has_item n) (tsfn_at h f.0))
+places_in_hub h (duty.Function f) = one_if (function_passes owes_finalizer (tsfn_at h f.0))
 
 -- IN THE BOOK
 -- how many it has in the book: a ticket that is registered or due has one there, and no other duty

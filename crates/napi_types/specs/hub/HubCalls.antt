@@ -18,7 +18,7 @@ use Rattle.napi_types.specs.parts.Functions.{FunctionState, new_function, call_s
 use Rattle.napi_types.specs.parts.Pool.{work_refusal, with_work, without_work, with_queued, with_cancelled, new_number}
 use Rattle.napi_types.specs.parts.Works.{is_created, is_queued, is_deletable}
 use Rattle.napi_types.specs.hub.Hub.{Hub}
-use Rattle.napi_types.specs.hub.HubMoves.{in_pool, in_function}
+use Rattle.napi_types.specs.hub.HubMoves.{in_pool, in_tsfn}
 
 -- an answer that makes a duty, where one is named
 abbrev pub making : Option Duty → Answer Hub → Answer Hub
@@ -32,8 +32,8 @@ unless_refused h (Some s) a = refuses s h
 
 -- ON FUNCTIONS
 -- the function of a number
-abbrev pub function_at : Hub → ℕ → Option FunctionState
-function_at h n = found (λ f. f.id) n h.functions
+abbrev pub tsfn_at : Hub → ℕ → Option FunctionState
+tsfn_at h n = found (λ f. f.id) n h.functions
 
 -- the answer of the function that is there; where none is, the call is refused with 1
 abbrev pub on_function : Hub → (FunctionState → Answer Hub) → Option FunctionState → Answer Hub
@@ -42,7 +42,7 @@ on_function h answer (Some f) = answer f
 
 -- a call that has this status leaves the function changed so
 abbrev pub answered : Status → (FunctionState → FunctionState) → Hub → FunctionState → Answer Hub
-answered s change h f = record { reply = plain s out.Nothing; after = in_function f.id change h }
+answered s change h f = record { reply = plain s out.Nothing; after = in_tsfn f.id change h }
 
 -- the item that an accepted call makes
 abbrev pub item_made : Status → FunctionState → Option Duty
@@ -91,12 +91,14 @@ hub_answer h who g (call.CancelAsyncWork w) n = Some (unless_refused h (work_ref
 hub_answer h who g (call.QueueAsyncWork w) n =
     Some (unless_refused h (work_refusal is_created h.pool w.0) (making (Some (duty.Work (new_number h.pool))) (accepts out.Nothing (in_pool (with_queued w.0) h))))
 hub_answer h who g (call.CreateThreadsafeFunction f entry maximum count finalizer context) n = Some (creating h g maximum count finalizer context)
-hub_answer h who g (call.CallThreadsafeFunction f payload m) n = call_answer h who payload m (function_at h f.0)
-hub_answer h who g (call.AcquireThreadsafeFunction f) n = Some (on_function h (λ x. answered (acquire_status x) (acquired (acquire_status x)) h x) (function_at h f.0))
-hub_answer h who g (call.ReleaseThreadsafeFunction f m) n = Some (on_function h (λ x. answered (release_status x) (released (release_status x) m) h x) (function_at h f.0))
-hub_answer h who g (call.RefThreadsafeFunction f) n = Some (on_function h (λ x. answered status.Ok (with_referenced true) h x) (function_at h f.0))
-hub_answer h who g (call.UnrefThreadsafeFunction f) n = Some (on_function h (λ x. answered status.Ok (with_referenced false) h x) (function_at h f.0))
-hub_answer h who g (call.GetThreadsafeFunctionContext f) n = Some (on_function h (λ x. accepts (out.Unsigned x.context) h) (function_at h f.0))
+hub_answer h who g (call.CallThreadsafeFunction f payload m) n = call_answer h who payload m (tsfn_at h f.0)
+hub_answer h who g (call.AcquireThreadsafeFunction f) n =
+    Some (on_function h (λ x. answered (acquire_status x) (acquired (acquire_status x)) h x) (tsfn_at h f.0))
+hub_answer h who g (call.ReleaseThreadsafeFunction f m) n =
+    Some (on_function h (λ x. answered (release_status x) (released (release_status x) m) h x) (tsfn_at h f.0))
+hub_answer h who g (call.RefThreadsafeFunction f) n = Some (on_function h (λ x. answered status.Ok (with_referenced true) h x) (tsfn_at h f.0))
+hub_answer h who g (call.UnrefThreadsafeFunction f) n = Some (on_function h (λ x. answered status.Ok (with_referenced false) h x) (tsfn_at h f.0))
+hub_answer h who g (call.GetThreadsafeFunctionContext f) n = Some (on_function h (λ x. accepts (out.Unsigned x.context) h) (tsfn_at h f.0))
 hub_answer h who g _ n = None
 
 -- the calls that a thread makes

@@ -12,7 +12,7 @@ use Rattle.napi_types.specs.parts.Frames.{begin_told, frame_of_duty}
 use Rattle.napi_types.specs.parts.Functions.{closed, finished}
 use Rattle.napi_types.specs.parts.Pool.{drained}
 use Rattle.napi_types.specs.hub.Hub.{Hub, Stage, Going, Looped, Drained, stage_after}
-use Rattle.napi_types.specs.hub.HubMoves.{HubMove, Delivers, Closes, Finishes, hub_move, in_function, with_delivered}
+use Rattle.napi_types.specs.hub.HubMoves.{HubMove, Delivers, Closes, Finishes, hub_move, in_tsfn, with_delivered}
 use Rattle.napi_types.specs.hub.HubStep.{HubStep, no_hub_step}
 
 -- the hub at the stage of one of its great events, where that may come
@@ -54,7 +54,7 @@ begin_step h x _ = no_hub_step h x
 abbrev pub close_step : Hub → Entry → Option HubMove → HubStep
 close_step h x (Some (Closes n)) = record {
   entry = host_entry host.CloseTsfn (out.Function (record { 0 = n }));
-  after = in_function n closed h;
+  after = in_tsfn n closed h;
   may = may_move h;
 }
 close_step h x _ = no_hub_step h x
@@ -62,7 +62,7 @@ close_step h x _ = no_hub_step h x
 abbrev pub finish_step : Hub → Entry → Option HubMove → HubStep
 finish_step h x (Some (Finishes n)) = record {
   entry = host_entry host.FinishTsfn (out.Function (record { 0 = n }));
-  after = in_function n finished h;
+  after = in_tsfn n finished h;
   may = may_move h;
 }
 finish_step h x _ = no_hub_step h x

@@ -21,23 +21,23 @@ pub data HubMove : Type 0 where
   Finishes : ℕ → HubMove
 
 -- WHICH COMES NEXT
--- what a function has to do. While it is open its first item is delivered; where none waits it closes once nobody holds it. While it is closing the items that wait are
--- torn; where none is left it finishes. Once it is finished its finalizer begins
-abbrev pub function_move_in : FunctionState → TsfnState → List ℕ → Option HubMove
-function_move_in f Open [] = cond (f.count == 0) (Some (Closes f.id)) None
-function_move_in f Open (payload ∷ later) = Some (Delivers (item_info f payload))
-function_move_in f Closing [] = Some (Finishes f.id)
-function_move_in f Closing (payload ∷ later) = Some (Delivers (torn_info f payload))
-function_move_in f Finished items = Some (Delivers (function_info f))
-function_move_in f Done items = None
+-- what a function has to do. While it is open its first item is delivered; where none waits it closes once nobody holds it. While it is closing the items that
+-- wait are torn; where none is left it finishes. Once it is finished its finalizer begins
+abbrev pub tsfn_move_in : FunctionState → TsfnState → List ℕ → Option HubMove
+tsfn_move_in f Open [] = cond (f.count == 0) (Some (Closes f.id)) None
+tsfn_move_in f Open (payload ∷ later) = Some (Delivers (item_info f payload))
+tsfn_move_in f Closing [] = Some (Finishes f.id)
+tsfn_move_in f Closing (payload ∷ later) = Some (Delivers (torn_info f payload))
+tsfn_move_in f Finished items = Some (Delivers (function_info f))
+tsfn_move_in f Done items = None
 
-abbrev pub function_move : FunctionState → Option HubMove
-function_move f = function_move_in f f.state f.items
+abbrev pub tsfn_move : FunctionState → Option HubMove
+tsfn_move f = tsfn_move_in f f.state f.items
 
 -- that of the function with the lowest number that has something to do
 abbrev pub first_move : List FunctionState → Option HubMove
 first_move [] = None
-first_move (f ∷ fs) = option_or (function_move f) (first_move fs)
+first_move (f ∷ fs) = option_or (tsfn_move f) (first_move fs)
 
 -- the completion of the work that finished first, or else the move of a function
 abbrev pub hub_move : Hub → Option HubMove
@@ -60,8 +60,8 @@ is_quiet h = is_empty (threads_left h) && is_empty h.pool.executions && (is_empt
 abbrev pub idle_reason : Hub → Option LoopEnd
 idle_reason h = cond (is_idle h) (Some loop_end.Idle) (cond (is_quiet h) (Some loop_end.Quiet) None)
 
--- why the loop ends, given whether exit was asked and whether a ticket is due: once exit was asked it ends for that, and else where neither a ticket is due nor the
--- hub has a move
+-- why the loop ends, given whether exit was asked and whether a ticket is due: once exit was asked it ends for that, and else where neither a ticket is due nor
+-- the hub has a move
 abbrev pub loop_end_of : Bool → Bool → Hub → Option LoopEnd
 loop_end_of true due h = Some loop_end.Exit
 loop_end_of false true h = None
@@ -76,14 +76,14 @@ is_spent h = is_empty (threads_left h) && is_empty (workers_left h) && is_empty 
 abbrev pub in_pool : (WorkPool → WorkPool) → Hub → Hub
 in_pool change h = record h { pool = change h.pool }
 
-abbrev pub in_function : ℕ → (FunctionState → FunctionState) → Hub → Hub
-in_function n change h = record h { functions = map (λ (f : FunctionState). cond (f.id == n) (change f) f) h.functions }
+abbrev pub in_tsfn : ℕ → (FunctionState → FunctionState) → Hub → Hub
+in_tsfn n change h = record h { functions = map (λ (f : FunctionState). cond (f.id == n) (change f) f) h.functions }
 
 -- a duty leaves its place in the hub
 abbrev pub without_duty : Duty → Hub → Hub
 without_duty (duty.Work n) h = in_pool with_completed h
-without_duty (duty.Item f n) h = in_function f.0 first_taken h
-without_duty (duty.Function f) h = in_function f.0 done h
+without_duty (duty.Item f n) h = in_tsfn f.0 first_taken h
+without_duty (duty.Function f) h = in_tsfn f.0 done h
 without_duty (duty.Ticket t) h = h
 
 -- its frame begins

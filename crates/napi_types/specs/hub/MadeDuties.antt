@@ -12,14 +12,14 @@ use Rattle.napi_types.specs.parts.Functions.{accepted_items}
 use Rattle.napi_types.specs.parts.Pool.{WorkPool, work_refusal, new_number}
 use Rattle.napi_types.specs.parts.Works.{WorkState}
 use Rattle.napi_types.specs.hub.Hub.{Hub}
-use Rattle.napi_types.specs.hub.HubCalls.{function_at, new_function_number, finalizer_duty, hub_answer}
+use Rattle.napi_types.specs.hub.HubCalls.{tsfn_at, new_function_number, finalizer_duty, hub_answer}
 
--- the duty that a call makes where the hub accepts it: the next number of a work, the next item of a function that is there, or the finalizer of the next function,
--- where it has one
+-- the duty that a call makes where the hub accepts it: the next number of a work, the next item of a function that is there, or the finalizer of the next
+-- function, where it has one
 abbrev pub duty_of_call : Hub → Call → Option Duty
 duty_of_call h (call.QueueAsyncWork w) = Some (duty.Work (new_number h.pool))
 duty_of_call h (call.CreateThreadsafeFunction f entry maximum count finalizer context) = finalizer_duty (new_function_number h) finalizer
-duty_of_call h (call.CallThreadsafeFunction f payload m) = option_map (λ g. duty.Item (record { 0 = g.id }) (accepted_items g + 1)) (function_at h f.0)
+duty_of_call h (call.CallThreadsafeFunction f payload m) = option_map (λ g. duty.Item (record { 0 = g.id }) (accepted_items g + 1)) (tsfn_at h f.0)
 duty_of_call h _ = None
 
 -- the answer makes that duty where its status is 0, and none where it is another

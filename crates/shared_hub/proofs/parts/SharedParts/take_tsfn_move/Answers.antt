@@ -5,8 +5,8 @@ use Rattle.tsfn.specs.declared.function.Moved.{Moved}
 use Rattle.shared_hub.specs.HubParts.{HubParts}
 use Rattle.shared_hub.specs.HubTries.{polled_move}
 use Rattle.shared_hub.proofs.FunctionsMove.{delivers-no-job, works-stay}
-use Rattle.shared_hub.proofs.parts.SharedParts.take_function_move.Goals as goal
-use Rattle.shared_hub.proofs.parts.SharedParts.take_function_move.Goals.{in-Some-Delivers, in-Some-Closes, in-Some-Finishes, in-None}
+use Rattle.shared_hub.proofs.parts.SharedParts.take_tsfn_move.Goals as goal
+use Rattle.shared_hub.proofs.parts.SharedParts.take_tsfn_move.Goals.{in-Some-Delivers, in-Some-Closes, in-Some-Finishes, in-None}
 
 pub returns-clause-left : goal.returns-clause-left
 returns-clause-left g c = λ h.
