@@ -22,7 +22,7 @@ use Rattle.napi_types.specs.parts.Hooks.{Hook, last_hook, without_hook}
 use Rattle.napi_types.specs.parts.References.{ReferenceMap}
 use Rattle.napi_types.specs.parts.Scopes.{OpenHandle, held_by_frames}
 use Rattle.napi_types.specs.environment.Ends.{duty_ended, without_innermost_frame, outermost_end_change}
-use Rattle.napi_types.specs.environment.Environment.{Environment, FunctionRoot}
+use Rattle.napi_types.specs.environment.Environment.{Environment, TsfnRoot}
 use Rattle.napi_types.specs.environment.Hooked.{is_late, IsHooked}
 use Rattle.napi_types.specs.environment.Registry.{Registry}
 use Rattle.napi_types.specs.environment.Tickets.{hooks_left, ticket_change}
@@ -165,7 +165,7 @@ not-by-call : (c : Cause) → c ≢ cause.Call → is_by_call c ≡ false
 not-by-call cause.Call uncalled = absurd (uncalled refl)
 not-by-call _ uncalled = refl
 
-pub state-begun : {m : ReferenceMap} {rs : List FunctionRoot} (store : StoreState) (old new : HandleScopes) (frames left : List Frame) (thrown : Option ℕ) (f : Frame) → IsState store old frames thrown m rs
+pub state-begun : {m : ReferenceMap} {rs : List TsfnRoot} (store : StoreState) (old new : HandleScopes) (frames left : List Frame) (thrown : Option ℕ) (f : Frame) → IsState store old frames thrown m rs
     → new ≡ with_frame_scopes old → left ≡ f ∷ frames → f.cause ≢ cause.Call → IsState store new left thrown m rs
 state-begun store old new frames left thrown f s scopes is uncalled =
     let P : List OpenHandle → Type 0 = λ hs. All (λ (h : OpenHandle). IsLive store h.value) hs in

@@ -18,7 +18,7 @@ use Rattle.napi_types.specs.parts.References.{Reference, ReferenceMap, strong_va
 use Rattle.napi_types.specs.parts.Scopes.{OpenHandle, held_by_frames}
 use Rattle.napi_types.specs.parts.Values.{Value, those_of, all_but}
 use Rattle.napi_types.specs.environment.Collection.{is_freed, collected}
-use Rattle.napi_types.specs.environment.Environment.{Environment, FunctionRoot}
+use Rattle.napi_types.specs.environment.Environment.{Environment, TsfnRoot}
 use Rattle.napi_types.specs.environment.Roots.{roots, reach}
 use Rattle.napi_types.proofs.plain.Lists.{All-left, All-right}
 use Rattle.napi_types.proofs.parts.Reaching.{reach_from-same}
@@ -27,7 +27,7 @@ use Rattle.handle_scope.specs.HandleScopes.{HandleScopes}
 use Rattle.env_values.specs.SeenValues.{seen_frame, heap_of}
 use Rattle.env_values.proofs.SeenValues.{IsSame, seen-same}
 use Rattle.trace_collect.specs.Collects.{reached, AreUnreached}
-use Rattle.env_core.specs.FunctionRooting.{root_seen, function_roots_seen, RootsAreLive}
+use Rattle.env_core.specs.TsfnRooting.{root_seen, tsfn_roots_seen, RootsAreLive}
 use Rattle.env_core.specs.Referring.{seen_reference, references_seen, RefersToLive}
 use Rattle.env_core.specs.Rooting.{AreRoots, held_values}
 use Rattle.env_core.specs.State.{pending_seen, IsState, AnswersInTime}
@@ -123,14 +123,15 @@ module _ (s t : StoreState) (ids freed alive : List ℕ) (c : FreesOthers s t id
   thrown-live (Some v) kept live = stays-live v (All-head (λ (r : ℕ). has_number r freed ≡ false) v [] kept) live
 
   -- ROOTS OF FUNCTIONS
-  functions-live : (rs : List FunctionRoot) → All (λ r. has_number r freed ≡ false) (map (λ f. f.value) rs) → RootsAreLive s rs → RootsAreLive t rs
-  functions-live [] kept live = All-nil (λ (f : FunctionRoot). IsLive t f.value)
+  functions-live : (rs : List TsfnRoot) → All (λ r. has_number r freed ≡ false) (map (λ f. f.value) rs) → RootsAreLive s rs → RootsAreLive t rs
+  functions-live [] kept live = All-nil (λ (f : TsfnRoot). IsLive t f.value)
   functions-live (f ∷ fs) kept live =
       let K : ℕ → Type 0 = λ r. has_number r freed ≡ false in
-      let L : FunctionRoot → Type 0 = λ g. IsLive s g.value in
-      All-cons (λ (g : FunctionRoot). IsLive t g.value) f fs (stays-live f.value (All-head K f.value _ kept) (All-head L f fs live)) (functions-live fs (All-tail K f.value _ kept) (All-tail L f fs live))
+      let L : TsfnRoot → Type 0 = λ g. IsLive s g.value in
+      All-cons (λ (g : TsfnRoot). IsLive t g.value) f fs (stays-live f.value (All-head K f.value _ kept) (All-head L f fs live))
+      (functions-live fs (All-tail K f.value _ kept) (All-tail L f fs live))
 
-  functions-kept : (rs : List FunctionRoot) → All (λ r. has_number r freed ≡ false) (map (λ f. f.value) rs) → function_roots_seen t rs ≡ function_roots_seen s rs
+  functions-kept : (rs : List TsfnRoot) → All (λ r. has_number r freed ≡ false) (map (λ f. f.value) rs) → tsfn_roots_seen t rs ≡ tsfn_roots_seen s rs
   functions-kept [] kept = refl
   functions-kept (f ∷ fs) kept =
       let K : ℕ → Type 0 = λ r. has_number r freed ≡ false in
@@ -138,19 +139,20 @@ module _ (s t : StoreState) (ids freed alive : List ℕ) (c : FreesOthers s t id
       ap (λ g. g ∷ map (root_seen t) fs) first ∙ ap (λ l. root_seen s f ∷ l) (functions-kept fs (All-tail K f.value _ kept))
 
 -- the roots that are no starting values are kept, each kind
-record KeepsRoots (freed : List ℕ) (scopes : HandleScopes) (m : ReferenceMap) (rs : List FunctionRoot) (p : Option ℕ) : Type 0 where
+record KeepsRoots (freed : List ℕ) (scopes : HandleScopes) (m : ReferenceMap) (rs : List TsfnRoot) (p : Option ℕ) : Type 0 where
   pub held : All (λ r. has_number r freed ≡ false) (map (λ h. h.value) (held_by_frames scopes.frames))
   pub strong : All (λ r. has_number r freed ≡ false) (strong_values m)
   pub functions : All (λ r. has_number r freed ≡ false) (map (λ f. f.value) rs)
   pub pending : All (λ r. has_number r freed ≡ false) (option_to_list p)
 
-keeps-roots : (s t : StoreState) (scopes : HandleScopes) (m : ReferenceMap) (rs : List FunctionRoot) (p : Option ℕ) (ids freed alive : List ℕ) → AreRoots s scopes m rs p ids → FreesOthers s t ids freed alive
+keeps-roots : (s t : StoreState) (scopes : HandleScopes) (m : ReferenceMap) (rs : List TsfnRoot) (p : Option ℕ) (ids freed alive : List ℕ)
+    → AreRoots s scopes m rs p ids → FreesOthers s t ids freed alive
     → KeepsRoots freed scopes m rs p
 keeps-roots s t scopes m rs p ids freed alive r c =
     let K : ℕ → Type 0 = λ id. has_number id freed ≡ false in
     let held : List ℕ = held_values scopes in
     let strong : List ℕ = strong_values m in
-    let functions : List ℕ = map (λ (f : FunctionRoot). f.value) rs in
+    let functions : List ℕ = map (λ (f : TsfnRoot). f.value) rs in
     let all : All K (r.starting ++ held ++ strong ++ functions ++ option_to_list p) =
     same-holds K ids (r.starting ++ held ++ strong ++ functions ++ option_to_list p) r.are c.kept in
     let most : All K (r.starting ++ held ++ strong ++ functions) = All-left K (r.starting ++ held ++ strong ++ functions) (option_to_list p) all in
@@ -163,12 +165,13 @@ keeps-roots s t scopes m rs p ids freed alive r c =
     }
 
 -- no strong reference names a value that is freed
-pub strong-kept : (s t : StoreState) (scopes : HandleScopes) (m : ReferenceMap) (rs : List FunctionRoot) (p : Option ℕ) (ids freed alive : List ℕ) → AreRoots s scopes m rs p ids → FreesOthers s t ids freed alive
+pub strong-kept : (s t : StoreState) (scopes : HandleScopes) (m : ReferenceMap) (rs : List TsfnRoot) (p : Option ℕ) (ids freed alive : List ℕ)
+    → AreRoots s scopes m rs p ids → FreesOthers s t ids freed alive
     → All (λ r. has_number r freed ≡ false) (strong_values m)
 strong-kept s t scopes m rs p ids freed alive r c = (keeps-roots s t scopes m rs p ids freed alive r c).strong
 
 -- what is left is a state
-pub state-collected : (s t : StoreState) (scopes : HandleScopes) (frames : List Frame) (m n : ReferenceMap) (rs : List FunctionRoot) (p : Option ℕ) (ids freed alive : List ℕ)
+pub state-collected : (s t : StoreState) (scopes : HandleScopes) (frames : List Frame) (m n : ReferenceMap) (rs : List TsfnRoot) (p : Option ℕ) (ids freed alive : List ℕ)
     → IsState s scopes frames p m rs → AreRoots s scopes m rs p ids → FreesOthers s t ids freed alive → n ≡ emptied (λ v. has_number v freed) m → IsState t scopes frames p n rs
 state-collected s t scopes frames m n rs p ids freed alive i r c e =
     let k : KeepsRoots freed scopes m rs p = keeps-roots s t scopes m rs p ids freed alive r c in
@@ -182,7 +185,7 @@ state-collected s t scopes frames m n rs p ids freed alive i r c e =
     }
 
 -- and it is what the machine's collection leaves
-pub collected-answers : (e : Environment) (s t : StoreState) (scopes : HandleScopes) (frames : List Frame) (m n : ReferenceMap) (rs : List FunctionRoot) (p : Option ℕ) (ids freed alive : List ℕ) (count : ℕ)
+pub collected-answers : (e : Environment) (s t : StoreState) (scopes : HandleScopes) (frames : List Frame) (m n : ReferenceMap) (rs : List TsfnRoot) (p : Option ℕ) (ids freed alive : List ℕ) (count : ℕ)
     → IsState s scopes frames p m rs → AreRoots s scopes m rs p ids → alive ≡ reach_from (graph_of s) (map (number_in s) ids) → FreesOthers s t ids freed alive
     → graph_of t ≡ those_of alive (graph_of s) → count ≡ length (all_but alive (graph_of s)) → n ≡ emptied (λ v. has_number v freed) m
     → (hung : Attachments) (book : Book) → hung ≡ left_on (is_freed alive) e.attachments → book ≡ due_where (hangs_on (is_freed alive) e.attachments) e.book
@@ -200,18 +203,18 @@ collected-answers e s t scopes frames m n rs p ids freed alive count i r are c g
     let references : references_seen t n ≡ emptied (λ v. not (has_number v (reach before))) (references_seen s m) =
     ap (references_seen t) empty ∙ seen-emptied s t ids freed alive c m i.referred ∙ ap (λ a. emptied (λ v. not (has_number v a)) (references_seen s m)) reached in
     let pending : pending_seen t p ≡ pending_seen s p = thrown-kept s t ids freed alive c p k.pending in
-    let functions : function_roots_seen t rs ≡ function_roots_seen s rs = functions-kept s t ids freed alive c rs k.functions in
+    let functions : tsfn_roots_seen t rs ≡ tsfn_roots_seen s rs = functions-kept s t ids freed alive c rs k.functions in
     let alive_here : Environment → List ℕ → Environment = λ x l. record x { attachments = left_on (is_freed l) e.attachments; book = due_where (hangs_on (is_freed l) e.attachments) e.book } in
-    let step : Heap → ReferenceMap → List FunctionRoot → Option ℕ → Environment =
-    λ h l f q. record e { heap = h; references = l; attachments = hung; book = book; function_roots = f; pending = q } in
+    let step : Heap → ReferenceMap → List TsfnRoot → Option ℕ → Environment =
+    λ h l f q. record e { heap = h; references = l; attachments = hung; book = book; tsfn_roots = f; pending = q } in
     record {
       fresh = refl;
       reply = ap (λ l. plain status.Ok (out.Unsigned l)) (counted ∙ ap (λ a. length (all_but a (graph_of s))) reached);
       after =
-          ap (λ h. step h (references_seen t n) (function_roots_seen t rs) (pending_seen t p)) heap
-          ∙ ap (λ l. step (collected (reach before) before).heap l (function_roots_seen t rs) (pending_seen t p)) references
+          ap (λ h. step h (references_seen t n) (tsfn_roots_seen t rs) (pending_seen t p)) heap
+          ∙ ap (λ l. step (collected (reach before) before).heap l (tsfn_roots_seen t rs) (pending_seen t p)) references
           ∙ ap (λ f. step (collected (reach before) before).heap (collected (reach before) before).references f (pending_seen t p)) functions
-          ∙ ap (λ q. step (collected (reach before) before).heap (collected (reach before) before).references (function_roots_seen s rs) q) pending
+          ∙ ap (λ q. step (collected (reach before) before).heap (collected (reach before) before).references (tsfn_roots_seen s rs) q) pending
           ∙ ap (λ l. record (collected (reach before) before) { attachments = l; book = book }) left
           ∙ ap (λ l. record (collected (reach before) before) { attachments = left_on (is_freed alive) e.attachments; book = l }) due
           ∙ ap (alive_here (collected (reach before) before)) reached;

@@ -26,7 +26,7 @@ use Rattle.napi_types.specs.parts.Scopes.{gives}
 use Rattle.napi_types.specs.parts.Values.{undefined_value}
 use Rattle.napi_types.specs.environment.Calls.{answer_unless, answer_unless_deep, answer}
 use Rattle.napi_types.specs.environment.Changes.{number_of}
-use Rattle.napi_types.specs.environment.Environment.{Environment, with_heap, FunctionRoot}
+use Rattle.napi_types.specs.environment.Environment.{Environment, with_heap, TsfnRoot}
 use Rattle.napi_types.specs.environment.ExceptionCalls.{with_pending, with_thrown_error}
 use Rattle.napi_types.specs.environment.Moments.{moment_refusal}
 use Rattle.napi_types.specs.environment.Refusals.{timely_refusal, early_refusal, depth_refusal}
@@ -168,7 +168,7 @@ taken-pending e store old new n h value next heap = record {
 }
 
 -- the scopes hold one handle more
-pub state-issued : {m : ReferenceMap} {rs : List FunctionRoot} (store : StoreState) (old new : HandleScopes) (frame : List Frame) (thrown : Option ℕ) (v : ℕ)
+pub state-issued : {m : ReferenceMap} {rs : List TsfnRoot} (store : StoreState) (old new : HandleScopes) (frame : List Frame) (thrown : Option ℕ) (v : ℕ)
     → IsState store old frame thrown m rs → IsLive store v → new ≡ with_issued_handle v old → IsState store new frame thrown m rs
 state-issued store old new frame thrown v s live is = record {
   live = issued-live store old new v is live s.live;
@@ -180,7 +180,7 @@ state-issued store old new frame thrown v s live is = record {
 }
 
 -- and no exception is pending
-pub state-taken : {m : ReferenceMap} {rs : List FunctionRoot} (store : StoreState) (old new : HandleScopes) (frame : List Frame) (thrown : Option ℕ) (v : ℕ)
+pub state-taken : {m : ReferenceMap} {rs : List TsfnRoot} (store : StoreState) (old new : HandleScopes) (frame : List Frame) (thrown : Option ℕ) (v : ℕ)
     → IsState store old frame thrown m rs → IsLive store v → new ≡ with_issued_handle v old → IsState store new frame None m rs
 state-taken {m = m} {rs = rs} store old new frame thrown v s live is =
     let i : IsState store new frame thrown m rs = state-issued store old new frame thrown v s live is in

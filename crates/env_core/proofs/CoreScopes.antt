@@ -24,7 +24,7 @@ use Rattle.napi_types.specs.parts.ScopeRefusals.{closing, escaping}
 use Rattle.napi_types.specs.parts.Scopes.{OpenHandle, FrameScopes, gives, opened_scopes}
 use Rattle.napi_types.specs.parts.Values.{undefined_value}
 use Rattle.napi_types.specs.environment.Calls.{effect, answer_unless}
-use Rattle.napi_types.specs.environment.Environment.{Environment, with_heap, in_heap, FunctionRoot}
+use Rattle.napi_types.specs.environment.Environment.{Environment, with_heap, in_heap, TsfnRoot}
 use Rattle.napi_types.specs.environment.Refusals.{group_refusal, timely_refusal}
 use Rattle.napi_types.proofs.plain.Lists.{length-changed}
 use Rattle.handle_scope.specs.HandleScopes.{HandleScopes, is_fresh_scope, with_open_scope, without_innermost_scope, with_escaped_handle}
@@ -158,7 +158,7 @@ accepted-escape e store old new scope h made v given why next escaped =
     }
 
 -- a scope that opens leaves each frame its scopes, and what they hold live
-pub state-opened : {m : ReferenceMap} {rs : List FunctionRoot} (store : StoreState) (old new : HandleScopes) (frame : List Frame) (pending : Option ℕ) (kind : ScopeKind) (n : ℕ) → IsState store old frame pending m rs → new ≡ with_open_scope kind n old → IsState store new frame pending m rs
+pub state-opened : {m : ReferenceMap} {rs : List TsfnRoot} (store : StoreState) (old new : HandleScopes) (frame : List Frame) (pending : Option ℕ) (kind : ScopeKind) (n : ℕ) → IsState store old frame pending m rs → new ≡ with_open_scope kind n old → IsState store new frame pending m rs
 state-opened store old new frame pending kind n s opened = rw opened (record {
   live = all-opened (λ p. IsLive store p.value) kind n old.frames s.live;
   frames = length-changed (open_in kind n) old.frames ∙ s.frames;
@@ -169,7 +169,7 @@ state-opened store old new frame pending kind n s opened = rw opened (record {
 })
 
 -- so does a handle that escapes
-pub state-escaped : {m : ReferenceMap} {rs : List FunctionRoot} (store : StoreState) (old new : HandleScopes) (frame : List Frame) (pending : Option ℕ) (n h v : ℕ) → IsState store old frame pending m rs → Some v ≡ gives old.frames h → new ≡ with_escaped_handle n v old → IsState store new frame pending m rs
+pub state-escaped : {m : ReferenceMap} {rs : List TsfnRoot} (store : StoreState) (old new : HandleScopes) (frame : List Frame) (pending : Option ℕ) (n h v : ℕ) → IsState store old frame pending m rs → Some v ≡ gives old.frames h → new ≡ with_escaped_handle n v old → IsState store new frame pending m rs
 state-escaped store old new frame pending n h v s given escaped =
     let p : OpenHandle = record { handle = old.handles + 1; value = v } in
     rw escaped (record {
@@ -182,13 +182,14 @@ state-escaped store old new frame pending n h v s given escaped =
     })
 
 -- also where it may be refused
-pub state-escaped-or-not : {A E : Type 0} {m : ReferenceMap} {rs : List FunctionRoot} (store : StoreState) (old new : HandleScopes) (frame : List Frame) (pending : Option ℕ) (n h v : ℕ) (r : Result A E)
+pub state-escaped-or-not : {A E : Type 0} {m : ReferenceMap} {rs : List TsfnRoot} (store : StoreState) (old new : HandleScopes) (frame : List Frame) (pending : Option ℕ) (n h v : ℕ) (r : Result A E)
     → IsState store old frame pending m rs → Some v ≡ gives old.frames h → OnOk r (new ≡ with_escaped_handle n v old) → OnErr r (new ≡ old) → IsState store new frame pending m rs
 state-escaped-or-not store old new frame pending n h v (Ok x) s given ok err = state-escaped store old new frame pending n h v s given ok
 state-escaped-or-not store old new frame pending n h v (Err x) s given ok err = rw err s
 
 -- a close leaves each frame its scopes, and what they hold live
-pub state-closed : {m : ReferenceMap} {rs : List FunctionRoot} (store : StoreState) (old new : HandleScopes) (frame : List Frame) (pending : Option ℕ) → IsState store old frame pending m rs → new ≡ without_innermost_scope old → IsState store new frame pending m rs
+pub state-closed : {m : ReferenceMap} {rs : List TsfnRoot} (store : StoreState) (old new : HandleScopes) (frame : List Frame) (pending : Option ℕ)
+    → IsState store old frame pending m rs → new ≡ without_innermost_scope old → IsState store new frame pending m rs
 state-closed store old new frame pending s closed = rw closed (record {
   live = all-closed (λ p. IsLive store p.value) old.frames s.live;
   frames = length-changed close_in old.frames ∙ s.frames;

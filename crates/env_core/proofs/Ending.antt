@@ -7,7 +7,7 @@ use Rattle.napi_types.specs.parts.Graph.{StoreState, IsLive}
 use Rattle.napi_types.specs.parts.References.{ReferenceMap}
 use Rattle.napi_types.specs.parts.ScopeChanges.{hold_in}
 use Rattle.napi_types.specs.parts.Scopes.{OpenHandle, FrameScopes, held_by_scopes, held_by_frames}
-use Rattle.napi_types.specs.environment.Environment.{FunctionRoot}
+use Rattle.napi_types.specs.environment.Environment.{TsfnRoot}
 use Rattle.napi_types.proofs.plain.Lists.{length-changed, length-tail, All-left}
 use Rattle.handle_scope.specs.HandleScopes.{HandleScopes, without_frame_scopes, without_call_scopes, with_issued_handle}
 use Rattle.env_values.proofs.Giving.{issued-live}
@@ -20,7 +20,7 @@ all-left P [] h = h
 all-left P (f ∷ fs) h = All-left P (held_by_frames fs) (f.own ++ held_by_scopes f.opened) h
 
 -- a frame and its scopes are gone
-pub state-left : {m : ReferenceMap} {rs : List FunctionRoot} (store : StoreState) (old new : HandleScopes) (standing left : List Frame) (thrown pending : Option ℕ) → IsState store old standing thrown m rs
+pub state-left : {m : ReferenceMap} {rs : List TsfnRoot} (store : StoreState) (old new : HandleScopes) (standing left : List Frame) (thrown pending : Option ℕ) → IsState store old standing thrown m rs
     → new ≡ without_frame_scopes old → left ≡ tail standing → IfSome pending (IsLive store) → IsState store new left pending m rs
 state-left store old new standing left thrown pending s scopes frames live = rw (scopes, frames) (record {
   live = all-left (λ p. IsLive store p.value) old.frames s.live;
@@ -32,7 +32,7 @@ state-left store old new standing left thrown pending s scopes frames live = rw 
 })
 
 -- and the caller holds a handle of a live value
-pub state-given : {m : ReferenceMap} {rs : List FunctionRoot} (store : StoreState) (old new : HandleScopes) (standing left : List Frame) (thrown pending : Option ℕ) (v : ℕ) → IsState store old standing thrown m rs
+pub state-given : {m : ReferenceMap} {rs : List TsfnRoot} (store : StoreState) (old new : HandleScopes) (standing left : List Frame) (thrown pending : Option ℕ) (v : ℕ) → IsState store old standing thrown m rs
     → new ≡ without_call_scopes (Some v) old → left ≡ tail standing → IfSome pending (IsLive store) → IsLive store v → IsState store new left pending m rs
 state-given {m = m} {rs = rs} store old new standing left thrown pending v s scopes frames live alive =
     let mid : IsState store (without_frame_scopes old) (tail standing) thrown m rs = state-left store old (without_frame_scopes old) standing (tail standing) thrown thrown s refl refl s.pending in

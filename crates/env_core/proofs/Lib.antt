@@ -7,7 +7,6 @@ pub mod CoreScopes
 pub mod Cores
 pub mod Ending
 pub mod Freeing
-pub mod FunctionRooting
 pub mod Knowing
 pub mod Looking
 pub mod OwnRefusals
@@ -17,5 +16,6 @@ pub mod Renaming
 pub mod Rooting
 pub mod SeenScopes
 pub mod Sharing
+pub mod TsfnRooting
 pub mod Unrefused
 pub mod ValueAnswers

@@ -11,7 +11,7 @@ use Rattle.napi_types.specs.parts.Reach.{numbers}
 use Rattle.napi_types.specs.parts.References.{Reference, ReferenceMap, strong_value, strong_values}
 use Rattle.napi_types.specs.parts.Scopes.{OpenHandle, Scope, FrameScopes, held_by_scopes, held_by_frame, held_by_frames}
 use Rattle.napi_types.specs.parts.Values.{starting_values}
-use Rattle.napi_types.specs.environment.Environment.{Environment, FunctionRoot}
+use Rattle.napi_types.specs.environment.Environment.{Environment, TsfnRoot}
 use Rattle.napi_types.specs.environment.Roots.{roots}
 use Rattle.napi_types.proofs.plain.Maps.{among-holds, all-among}
 use Rattle.napi_types.proofs.plain.Conditions.{alike}
@@ -21,11 +21,11 @@ use Rattle.env_values.specs.SeenValues.{seen_held, seen_scope, seen_frame, heap_
 use Rattle.napi_reference.specs.ReferencePlaces.{strong_in}
 use Rattle.napi_reference.proofs.KeepingReferences.{strong_values-AllValues}
 use Rattle.trace_collect.specs.Collects.{HoldsStarting}
-use Rattle.env_core.specs.FunctionRooting.{function_roots_seen, RootsAreLive}
+use Rattle.env_core.specs.TsfnRooting.{tsfn_roots_seen, RootsAreLive}
 use Rattle.env_core.specs.Referring.{seen_reference, references_seen, RefersToLive}
 use Rattle.env_core.specs.Rooting.{AreStarting, AreRoots, held_values}
 use Rattle.env_core.specs.State.{pending_seen}
-use Rattle.env_core.proofs.FunctionRooting.{values-seen}
+use Rattle.env_core.proofs.TsfnRooting.{values-seen}
 
 -- THE SAME NUMBERS
 -- what some of these numbers give, the others give
@@ -51,11 +51,11 @@ same-holds P ms ns same all = all-among P ns (λ n here. among-holds P ms n all 
 
 -- THE MACHINE'S ROOTS
 -- the environment with these values, scopes, references, roots of functions and pending exception
-abbrev pub whole_environment : Environment → StoreState → HandleScopes → ReferenceMap → List FunctionRoot → Option ℕ → Environment
+abbrev pub whole_environment : Environment → StoreState → HandleScopes → ReferenceMap → List TsfnRoot → Option ℕ → Environment
 whole_environment e s scopes m rs p =
-    record e { heap = heap_of s scopes; references = references_seen s m; function_roots = function_roots_seen s rs; pending = pending_seen s p }
+    record e { heap = heap_of s scopes; references = references_seen s m; tsfn_roots = tsfn_roots_seen s rs; pending = pending_seen s p }
 
-abbrev root_values : List FunctionRoot → List ℕ
+abbrev root_values : List TsfnRoot → List ℕ
 root_values rs = map (λ r. r.value) rs
 
 abbrev handle_values : List OpenHandle → List ℕ
@@ -106,7 +106,7 @@ module _ (s : StoreState) where
   pending-at (Some v) = refl
 
   -- the roots in the order of the machine
-  in-order : (e : Environment) (scopes : HandleScopes) (m : ReferenceMap) (rs : List FunctionRoot) (p : Option ℕ) (starting : List ℕ) → AreStarting s starting
+  in-order : (e : Environment) (scopes : HandleScopes) (m : ReferenceMap) (rs : List TsfnRoot) (p : Option ℕ) (starting : List ℕ) → AreStarting s starting
       → map (number_in s) (starting ++ held_values scopes ++ strong_values m ++ root_values rs ++ option_to_list p) ≡ roots (whole_environment e s scopes m rs p)
   in-order e scopes m rs p starting are =
       let n : List ℕ → List ℕ = map (number_in s) in
@@ -124,10 +124,11 @@ module _ (s : StoreState) where
       ∙ ap (λ l. first ++ l ++ n strong ++ n functions ++ n last) (sym (frames-seen scopes.frames))
       ∙ ap (λ l. first ++ seen ++ l ++ n functions ++ n last) (sym (rows-strong m.rows))
       ∙ ap (λ l. first ++ seen ++ strong_values (references_seen s m) ++ l ++ n last) (sym (values-seen s rs))
-      ∙ ap (λ l. first ++ seen ++ strong_values (references_seen s m) ++ root_values (function_roots_seen s rs) ++ l) (sym (pending-at p))
+      ∙ ap (λ l. first ++ seen ++ strong_values (references_seen s m) ++ root_values (tsfn_roots_seen s rs) ++ l) (sym (pending-at p))
 
   -- and in any order
-  pub roots-seen : (e : Environment) (scopes : HandleScopes) (m : ReferenceMap) (rs : List FunctionRoot) (p : Option ℕ) (ids : List ℕ) → AreRoots s scopes m rs p ids
+  pub roots-seen : (e : Environment) (scopes : HandleScopes) (m : ReferenceMap) (rs : List TsfnRoot) (p : Option ℕ) (ids : List ℕ)
+      → AreRoots s scopes m rs p ids
       → HaveSameNumbers (map (number_in s) ids) (roots (whole_environment e s scopes m rs p))
   roots-seen e scopes m rs p ids r =
       λ n. same-mapped (number_in s) ids (r.starting ++ held_values scopes ++ strong_values m ++ root_values rs ++ option_to_list p) r.are n
@@ -142,7 +143,8 @@ starts-with (suc (suc (suc zero))) ns h = refl
 starts-with (suc (suc (suc (suc zero)))) ns h = refl
 starts-with (suc (suc (suc (suc (suc which))))) ns h = absurd (omega (arith, h))
 
-pub roots-start : (s : StoreState) (scopes : HandleScopes) (m : ReferenceMap) (rs : List FunctionRoot) (p : Option ℕ) (ids : List ℕ) → AreRoots s scopes m rs p ids → HoldsStarting s ids
+pub roots-start : (s : StoreState) (scopes : HandleScopes) (m : ReferenceMap) (rs : List TsfnRoot) (p : Option ℕ) (ids : List ℕ)
+    → AreRoots s scopes m rs p ids → HoldsStarting s ids
 roots-start s scopes m rs p ids r which h =
     let n : List ℕ → List ℕ = map (number_in s) in
     let rest : List ℕ = held_values scopes ++ (strong_values m ++ (root_values rs ++ option_to_list p)) in
@@ -222,7 +224,8 @@ pending-live s None live = All-nil (IsLive s)
 pending-live s (Some v) live = All-cons (IsLive s) v [] live (All-nil (IsLive s))
 
 -- what was gathered are the roots
-pub gathered : (s : StoreState) (scopes : HandleScopes) (m : ReferenceMap) (rs : List FunctionRoot) (p : Option ℕ) (first second third fourth ids : List ℕ) → HoldsLive s scopes → RefersToLive s m
+pub gathered : (s : StoreState) (scopes : HandleScopes) (m : ReferenceMap) (rs : List TsfnRoot) (p : Option ℕ) (first second third fourth ids : List ℕ)
+    → HoldsLive s scopes → RefersToLive s m
     → RootsAreLive s rs → IfSome p (IsLive s) → AreStarting s first → second ≡ first ++ held_values scopes → HaveSameNumbers third (second ++ strong_values m) → fourth ≡ third ++ root_values rs
     → ids ≡ fourth ++ option_to_list p → AreRoots s scopes m rs p ids
 gathered s scopes m rs p first second third fourth ids held referred rooted pending start a b c d =
@@ -239,5 +242,5 @@ gathered s scopes m rs p first second third fourth ids held referred rooted pend
     (All-append L (first ++ held_values scopes) (strong_values m)
     (All-append L first (held_values scopes) start.live (All-map L (λ (h : OpenHandle). h.value) (held_by_frames scopes.frames) held))
     (strong_values-AllValues L m referred))
-    (All-map L (λ (r : FunctionRoot). r.value) rs rooted)) (pending-live s p pending) in
+    (All-map L (λ (r : TsfnRoot). r.value) rs rooted)) (pending-live s p pending) in
     record { starting = first; are_starting = start; are = are; live = same-holds L all ids (λ n. sym (are n)) live }

@@ -11,7 +11,7 @@ use Rattle.napi_types.specs.declared.status.Status.{Status}
 use Rattle.napi_types.specs.plain.Room.{one_if}
 use Rattle.napi_types.specs.parts.Book.{owed_tickets}
 use Rattle.napi_types.specs.environment.Changes.{with_noted_status}
-use Rattle.napi_types.specs.environment.Environment.{Environment, FunctionRoot}
+use Rattle.napi_types.specs.environment.Environment.{Environment, TsfnRoot}
 use Rattle.napi_types.specs.environment.Hooked.{IsHooked}
 use Rattle.napi_types.specs.environment.JournalRoom.{gone_place, reserved_journal}
 use Rattle.napi_types.specs.environment.SharedCalls.{with_root, without_root, after_shared}
@@ -104,7 +104,7 @@ finished-may n e room (Some s) may = record {
       omega (
         arith,
         may.place wants,
-        length-filter (λ (r : FunctionRoot). not (r.function == n)) e.function_roots,
-        count_by-le-length (λ (r : FunctionRoot). not (r.function == n)) e.function_roots,
+        length-filter (λ (r : TsfnRoot). not (r.function == n)) e.tsfn_roots,
+        count_by-le-length (λ (r : TsfnRoot). not (r.function == n)) e.tsfn_roots,
       );
 }

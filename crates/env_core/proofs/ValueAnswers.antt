@@ -19,7 +19,7 @@ use Rattle.napi_types.specs.parts.HeapRefusals.{refusal_in}
 use Rattle.napi_types.specs.parts.References.{Reference, ReferenceMap}
 use Rattle.napi_types.specs.environment.Calls.{effect, answer_unless}
 use Rattle.napi_types.specs.environment.Changes.{is_fresh_result, number_of}
-use Rattle.napi_types.specs.environment.Environment.{Environment, FunctionRoot, with_heap, in_heap}
+use Rattle.napi_types.specs.environment.Environment.{Environment, TsfnRoot, with_heap, in_heap}
 use Rattle.napi_types.specs.environment.Refusals.{group_refusal, timely_refusal}
 use Rattle.napi_types.proofs.plain.Lists.{option_or-none}
 use Rattle.napi_types.proofs.environment.Answers.{heap_answer-keeps}
@@ -28,8 +28,8 @@ use Rattle.handle_scope.specs.HandleScopes.{HandleScopes}
 use Rattle.env_values.specs.SeenValues.{seen_frame, heap_of, KeepsValues}
 use Rattle.env_core.specs.Attaching.{attachments_seen, AreAttachedToLive}
 use Rattle.env_core.proofs.Attaching.{attachments-kept}
-use Rattle.env_core.specs.FunctionRooting.{function_roots_seen, RootsAreLive}
-use Rattle.env_core.proofs.FunctionRooting.{roots-kept}
+use Rattle.env_core.specs.TsfnRooting.{tsfn_roots_seen, RootsAreLive}
+use Rattle.env_core.proofs.TsfnRooting.{roots-kept}
 use Rattle.env_core.specs.Referring.{seen_reference, references_seen, RefersToLive}
 use Rattle.env_core.specs.State.{pending_seen, AnswersInTime}
 
@@ -140,23 +140,24 @@ pub references-kept : (s t : StoreState) (m : ReferenceMap) → KeepsValues s t 
 references-kept s t m kept live = ap (λ l. record m { rows = l }) (rows-kept s t m.rows kept live)
 
 -- where the heap is seen as it was, so is all that names its values
-pub same-seen : (e : Environment) (s t : StoreState) (old new : HandleScopes) (m : ReferenceMap) (rs : List FunctionRoot) (a : Attachments) (p : Option ℕ) → KeepsValues s t → RefersToLive s m
+pub same-seen : (e : Environment) (s t : StoreState) (old new : HandleScopes) (m : ReferenceMap) (rs : List TsfnRoot) (a : Attachments) (p : Option ℕ)
+    → KeepsValues s t → RefersToLive s m
     → RootsAreLive s rs → AreAttachedToLive s a → IfSome p (IsLive s) → heap_of t new ≡ heap_of s old
-    → record e { heap = heap_of t new; references = references_seen t m; attachments = attachments_seen t a; function_roots = function_roots_seen t rs; pending = pending_seen t p }
-    ≡ record e { heap = heap_of s old; references = references_seen s m; attachments = attachments_seen s a; function_roots = function_roots_seen s rs; pending = pending_seen s p }
+    → record e { heap = heap_of t new; references = references_seen t m; attachments = attachments_seen t a; tsfn_roots = tsfn_roots_seen t rs; pending = pending_seen t p }
+    ≡ record e { heap = heap_of s old; references = references_seen s m; attachments = attachments_seen s a; tsfn_roots = tsfn_roots_seen s rs; pending = pending_seen s p }
 same-seen e s t old new m rs a p kept live rooted attached alive same =
-    let seen : Heap → ReferenceMap → Attachments → List FunctionRoot → Option ℕ → Environment =
-    λ h l x f q. record e { heap = h; references = l; attachments = x; function_roots = f; pending = q } in
-    ap (λ h. seen h (references_seen t m) (attachments_seen t a) (function_roots_seen t rs) (pending_seen t p)) same
-    ∙ ap (λ l. seen (heap_of s old) l (attachments_seen t a) (function_roots_seen t rs) (pending_seen t p)) (references-kept s t m kept live)
-    ∙ ap (λ x. seen (heap_of s old) (references_seen s m) x (function_roots_seen t rs) (pending_seen t p)) (attachments-kept s t kept a attached)
+    let seen : Heap → ReferenceMap → Attachments → List TsfnRoot → Option ℕ → Environment =
+    λ h l x f q. record e { heap = h; references = l; attachments = x; tsfn_roots = f; pending = q } in
+    ap (λ h. seen h (references_seen t m) (attachments_seen t a) (tsfn_roots_seen t rs) (pending_seen t p)) same
+    ∙ ap (λ l. seen (heap_of s old) l (attachments_seen t a) (tsfn_roots_seen t rs) (pending_seen t p)) (references-kept s t m kept live)
+    ∙ ap (λ x. seen (heap_of s old) (references_seen s m) x (tsfn_roots_seen t rs) (pending_seen t p)) (attachments-kept s t kept a attached)
     ∙ ap (λ f. seen (heap_of s old) (references_seen s m) (attachments_seen s a) f (pending_seen t p)) (roots-kept s t rs kept rooted)
-    ∙ ap (λ q. seen (heap_of s old) (references_seen s m) (attachments_seen s a) (function_roots_seen s rs) q) (pending-kept s t p kept alive)
+    ∙ ap (λ q. seen (heap_of s old) (references_seen s m) (attachments_seen s a) (tsfn_roots_seen s rs) q) (pending-kept s t p kept alive)
 
 -- a call that finds no memory leaves what the machine sees
-pub stopped-same : {A E : Type 0} (e : Environment) (s t : StoreState) (old new : HandleScopes) (m : ReferenceMap) (rs : List FunctionRoot) (a : Attachments) (p : Option ℕ) (r : Result A E)
+pub stopped-same : {A E : Type 0} (e : Environment) (s t : StoreState) (old new : HandleScopes) (m : ReferenceMap) (rs : List TsfnRoot) (a : Attachments) (p : Option ℕ) (r : Result A E)
     → KeepsValues s t → RefersToLive s m → RootsAreLive s rs → AreAttachedToLive s a → IfSome p (IsLive s) → OnErr r (heap_of t new ≡ heap_of s old)
-    → OnErr r (record e { heap = heap_of t new; references = references_seen t m; attachments = attachments_seen t a; function_roots = function_roots_seen t rs; pending = pending_seen t p }
-    ≡ record e { heap = heap_of s old; references = references_seen s m; attachments = attachments_seen s a; function_roots = function_roots_seen s rs; pending = pending_seen s p })
+    → OnErr r (record e { heap = heap_of t new; references = references_seen t m; attachments = attachments_seen t a; tsfn_roots = tsfn_roots_seen t rs; pending = pending_seen t p }
+    ≡ record e { heap = heap_of s old; references = references_seen s m; attachments = attachments_seen s a; tsfn_roots = tsfn_roots_seen s rs; pending = pending_seen s p })
 stopped-same e s t old new m rs a p (Ok x) kept live rooted attached alive same = tt
 stopped-same e s t old new m rs a p (Err x) kept live rooted attached alive same = same-seen e s t old new m rs a p kept live rooted attached alive same

@@ -2,7 +2,6 @@ pub mod Attaching
 pub mod Beginning
 pub mod Core
 pub mod CoreSteps
-pub mod FunctionRooting
 pub mod Journal
 pub mod Looking
 pub mod Referring
@@ -10,3 +9,4 @@ pub mod Rooting
 pub mod Sharing
 pub mod Standing
 pub mod State
+pub mod TsfnRooting

@@ -8,7 +8,7 @@ use Rattle.napi_types.specs.parts.Reach.{numbers}
 use Rattle.napi_types.specs.parts.References.{ReferenceMap, strong_values}
 use Rattle.napi_types.specs.parts.Scopes.{held_by_frames}
 use Rattle.napi_types.specs.parts.Values.{starting_values}
-use Rattle.napi_types.specs.environment.Environment.{FunctionRoot}
+use Rattle.napi_types.specs.environment.Environment.{TsfnRoot}
 use Rattle.handle_scope.specs.HandleScopes.{HandleScopes}
 
 -- these name the starting values, in their order
@@ -22,7 +22,7 @@ held_values scopes = map (λ h. h.value) (held_by_frames scopes.frames)
 
 -- these are the roots, in any order: the starting values, the values of the handles in open scopes, those of strong references, those that thread-safe
 -- functions keep, and the pending exception
-pub record AreRoots (store : StoreState) (scopes : HandleScopes) (references : ReferenceMap) (functions : List FunctionRoot) (pending : Option ℕ) (ids : List ℕ)
+pub record AreRoots (store : StoreState) (scopes : HandleScopes) (references : ReferenceMap) (functions : List TsfnRoot) (pending : Option ℕ) (ids : List ℕ)
     : Type 0 where
   pub starting : List ℕ
   pub are_starting : AreStarting store starting

@@ -14,7 +14,7 @@ use Rattle.napi_types.specs.environment.Ends.{end_change}
 use Rattle.napi_types.specs.environment.Environment.{Environment}
 use Rattle.napi_types.specs.environment.SharedCalls.{after_shared, after_delivery, without_root}
 use Rattle.env_core.specs.Core.{Core}
-use Rattle.env_core.specs.FunctionRooting.{HasRootPlace}
+use Rattle.env_core.specs.TsfnRooting.{HasRootPlace}
 
 -- ROOTS
 -- a thread-safe function is to be created that is made of a function, whose value it will keep alive

@@ -27,13 +27,13 @@ use Rattle.napi_types.specs.parts.References.{ReferenceMap}
 use Rattle.napi_types.specs.environment.Calls.{answer_unless, answer}
 use Rattle.napi_types.specs.environment.Changes.{call_change, call_entry, number_of, is_fresh_result}
 use Rattle.napi_types.specs.environment.Entering.{is_entering, enter_change}
-use Rattle.napi_types.specs.environment.Environment.{Environment, FunctionRoot}
+use Rattle.napi_types.specs.environment.Environment.{Environment, TsfnRoot}
 use Rattle.napi_types.specs.environment.Refusals.{timely_refusal, refusal}
 use Rattle.handle_scope.specs.HandleScopes.{HandleScopes}
 use Rattle.env_core.specs.declared.state.calling.Called.{Called}
 use Rattle.env_core.specs.declared.state.calling.Called.TheVariants as called_of
 use Rattle.env_values.specs.SeenValues.{heap_of, HoldsLive}
-use Rattle.env_core.specs.FunctionRooting.{RootsAreLive}
+use Rattle.env_core.specs.TsfnRooting.{RootsAreLive}
 use Rattle.env_core.specs.Referring.{RefersToLive}
 
 -- whether a call of the frame around it began a frame
@@ -48,7 +48,7 @@ pending_seen store pending = option_map (number_in store) pending
 -- each frame that stands has its scopes, which know what frames a call began; what they hold is live, and so are the pending exception, the values of
 -- references, and those that thread-safe functions keep
 pub record IsState (store : StoreState) (scopes : HandleScopes) (standing : List Frame) (thrown : Option ℕ) (references : ReferenceMap)
-    (functions : List FunctionRoot) : Type 0 where
+    (functions : List TsfnRoot) : Type 0 where
   pub live : HoldsLive store scopes
   pub frames : length scopes.frames ≡ length standing
   pub calls : scopes.by_call ≡ map (λ f. is_by_call f.cause) standing

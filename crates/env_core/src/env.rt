@@ -25,9 +25,9 @@ ghost use Rattle.env_core.specs.Sharing.{after_finish};
 mod hub;
 
 use crate::frames::StandingFrame;
-use crate::function_roots::RootRoom;
 use crate::journal::Journal;
 use crate::state::{Called, State, host_entry};
+use crate::tsfn_roots::RootRoom;
 use addon_trait::Phased;
 use napi_types::{
     Args, Begun, Call, Cause, Due, Duty, Facts, HandleId, HostStep, Limits, Local, LocalList,

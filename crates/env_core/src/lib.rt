@@ -6,11 +6,11 @@
 
 mod env;
 mod frames;
-mod function_roots;
 mod handles;
 mod journal;
 mod roots;
 mod state;
+mod tsfn_roots;
 mod weak_references;
 
 pub use env::{EnvCore, Stepped};

@@ -7,11 +7,11 @@ ghost use Rattle.std.specs.Option.{option_to_list};
 ghost use Rattle.value_store.specs.StoreChanges.{numbers_of};
 ghost use Rattle.napi_reference.specs.ReferencePlaces.{map_of};
 ghost use Rattle.env_values.specs.SeenValues.{HoldsLive};
-ghost use Rattle.env_core.specs.FunctionRooting.{RootsAreLive};
+ghost use Rattle.env_core.specs.TsfnRooting.{RootsAreLive};
 ghost use Rattle.env_core.specs.Referring.{RefersToLive};
 ghost use Rattle.env_core.specs.Rooting.{AreRoots, AreStarting, held_values};
 
-use crate::function_roots::FunctionRoots;
+use crate::tsfn_roots::TsfnRoots;
 use handle_scope::Scopes;
 use napi_reference::Refs;
 use napi_types::{NoMemory, ValueId};
@@ -28,7 +28,7 @@ pub fn roots_of(
     store: &Store,
     scopes: &Scopes,
     references: &Refs,
-    functions: &FunctionRoots,
+    functions: &TsfnRoots,
     pending: Option<ValueId>,
 ) -> Result<Vec<ValueId>, NoMemory>
     requires held { HoldsLive store.now scopes.now }

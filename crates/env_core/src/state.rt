@@ -28,15 +28,15 @@ mod collection;
 mod ends;
 mod exceptions;
 mod externals;
-mod function_roots;
 mod hooks;
 mod instances;
 mod references;
 mod shared;
 mod tickets;
+mod tsfn_roots;
 
 use crate::frames::{Frames, StandingFrame};
-use crate::function_roots::FunctionRoots;
+use crate::tsfn_roots::TsfnRoots;
 pub use calling::Called;
 use env_registry::{Finalizer, Registry};
 use env_values::value_step;
@@ -67,7 +67,7 @@ pub struct State {
     frames: Frames,
     references: Refs,
     registry: Registry,
-    function_roots: FunctionRoots,
+    tsfn_roots: TsfnRoots,
     exceptions: Exceptions,
 }
 
@@ -81,7 +81,7 @@ impl Model for State {
     ghost use Rattle.napi_reference.specs.ReferencePlaces.{map_of};
     ghost use Rattle.env_core.specs.Attaching.{attachments_seen, AreAttachedToLive};
     ghost use Rattle.env_core.specs.Beginning.{AreBegun};
-    ghost use Rattle.env_core.specs.FunctionRooting.{function_roots_seen};
+    ghost use Rattle.env_core.specs.TsfnRooting.{tsfn_roots_seen};
     ghost use Rattle.env_core.specs.Referring.{references_seen};
     ghost use Rattle.env_core.specs.State.{pending_seen, IsState};
 
@@ -100,12 +100,12 @@ impl Model for State {
       book = state.registry.parts.book;
       hooks = state.registry.parts.hooks;
       instances = state.registry.parts.instances;
-      function_roots = function_roots_seen state.store state.function_roots;
+      tsfn_roots = tsfn_roots_seen state.store state.tsfn_roots;
       pending = pending_seen state.store state.exceptions.pending;
       last = state.exceptions.last;
     } };
 
-    ghost invariant = { λ state. IsState state.store state.scopes state.frames state.exceptions.pending (map_of state.references) state.function_roots
+    ghost invariant = { λ state. IsState state.store state.scopes state.frames state.exceptions.pending (map_of state.references) state.tsfn_roots
         × AreAttachedToLive state.store state.registry.parts.attachments
         × AreBegun state.frames state.registry.parts.book };
 }
@@ -134,7 +134,7 @@ impl State {
             frames,
             references,
             registry,
-            function_roots: FunctionRoots::new(alloc),
+            tsfn_roots: TsfnRoots::new(alloc),
             exceptions: Exceptions::new(),
         })
     }

@@ -10,7 +10,7 @@ use Rattle.napi_types.specs.parts.Reach.{numbers, children_at}
 use Rattle.napi_types.specs.parts.References.{Reference, strong_values, value_left}
 use Rattle.napi_types.specs.parts.Values.{Value, children, value_at, starting_values, those_of}
 use Rattle.napi_types.specs.environment.Collection.{collected}
-use Rattle.napi_types.specs.environment.Environment.{Environment, FunctionRoot}
+use Rattle.napi_types.specs.environment.Environment.{Environment, TsfnRoot}
 use Rattle.napi_types.specs.environment.Roots.{roots, reach}
 use Rattle.napi_types.proofs.plain.Maps.{has-left, has-right}
 use Rattle.napi_types.proofs.parts.Reaching.{reach-roots, reach-closed, numbers-kept}
@@ -52,7 +52,7 @@ abbrev held_roots : Environment → List ℕ
 held_roots e = values_of_handles e.heap.scopes
 
 abbrev function_values : Environment → List ℕ
-function_values e = map (λ r. r.value) e.function_roots
+function_values e = map (λ r. r.value) e.tsfn_roots
 
 abbrev early_roots : Environment → List ℕ
 early_roots e = numbers starting_values ++ held_roots e ++ strong_values e.references
@@ -103,19 +103,19 @@ pending-kept e (Some n) is live =
     live-root e n live (root-pending e n here)
 
 -- what a thread-safe function keeps alive is kept
-there-roots : (rs : List FunctionRoot) → All (λ r. has_number r.value (map (λ (x : FunctionRoot). x.value) rs) ≡ true) rs
-there-roots [] = All-nil (λ (r : FunctionRoot). has_number r.value [] ≡ true)
+there-roots : (rs : List TsfnRoot) → All (λ r. has_number r.value (map (λ (x : TsfnRoot). x.value) rs) ≡ true) rs
+there-roots [] = All-nil (λ (r : TsfnRoot). has_number r.value [] ≡ true)
 there-roots (x ∷ rs) =
-    let P : FunctionRoot → Type 0 = λ r. has_number r.value (map (λ (x : FunctionRoot). x.value) (x ∷ rs)) ≡ true in
-    All-cons P x rs (or_left (x.value == x.value) (has_number x.value (map (λ (r : FunctionRoot). r.value) rs)) (eq-eqb x.value x.value refl))
-    (All-weaker (λ r. has_number r.value (map (λ (x : FunctionRoot). x.value) rs) ≡ true) P
-    (λ r h. or_right (x.value == r.value) (has_number r.value (map (λ (x : FunctionRoot). x.value) rs)) h) rs (there-roots rs))
+    let P : TsfnRoot → Type 0 = λ r. has_number r.value (map (λ (x : TsfnRoot). x.value) (x ∷ rs)) ≡ true in
+    All-cons P x rs (or_left (x.value == x.value) (has_number x.value (map (λ (r : TsfnRoot). r.value) rs)) (eq-eqb x.value x.value refl))
+    (All-weaker (λ r. has_number r.value (map (λ (x : TsfnRoot). x.value) rs) ≡ true) P
+    (λ r h. or_right (x.value == r.value) (has_number r.value (map (λ (x : TsfnRoot). x.value) rs)) h) rs (there-roots rs))
 
-pub rooted-kept : (e : Environment) → All (λ (r : FunctionRoot). IsLiveAmong e.heap.values r.value) e.function_roots
-    → All (λ (r : FunctionRoot). IsLiveAmong (kept e) r.value) e.function_roots
+pub rooted-kept : (e : Environment) → All (λ (r : TsfnRoot). IsLiveAmong e.heap.values r.value) e.tsfn_roots
+    → All (λ (r : TsfnRoot). IsLiveAmong (kept e) r.value) e.tsfn_roots
 rooted-kept e live k d below =
-    let n : ℕ = (slice_index_or e.function_roots k d).value in
-    live-root e n (live k d below) (root-function e n (there-roots e.function_roots k d below))
+    let n : ℕ = (slice_index_or e.tsfn_roots k d).value in
+    live-root e n (live k d below) (root-function e n (there-roots e.tsfn_roots k d below))
 
 left-live : (e : Environment) (o : Option ℕ) → IfSome (value_left (λ v. not (has_number v (reach e))) o) (IsLiveAmong (kept e))
 left-live e None = tt

@@ -19,7 +19,7 @@ use Rattle.napi_types.specs.parts.References.{Reference, ReferenceMap, with_refe
 use Rattle.napi_types.specs.parts.Values.{undefined_value}
 use Rattle.napi_types.specs.environment.Calls.{effect, answer}
 use Rattle.napi_types.specs.environment.Changes.{call_change}
-use Rattle.napi_types.specs.environment.Environment.{FunctionRoot, Environment, with_heap}
+use Rattle.napi_types.specs.environment.Environment.{TsfnRoot, Environment, with_heap}
 use Rattle.napi_types.specs.environment.ExceptionCalls.{with_pending, with_thrown_error}
 use Rattle.napi_types.specs.environment.HookCalls.{unhooked}
 use Rattle.napi_types.specs.environment.ReferenceCalls.{with_references}
@@ -42,7 +42,7 @@ pub record IsConsistentButFrames (e : Environment) : Type 0 where
   pub referred : All (λ r. IfSome r.value (IsLiveAmong e.heap.values)) e.references.rows
   pub references : IsMap e.references
   pub pending : IfSome e.pending (IsLiveAmong e.heap.values)
-  pub rooted : All (λ r. IsLiveAmong e.heap.values r.value) e.function_roots
+  pub rooted : All (λ r. IsLiveAmong e.heap.values r.value) e.tsfn_roots
 
 -- one environment leads to another, which is good
 pub record LeadsToGood (old new : Environment) : Type 0 where
@@ -88,7 +88,8 @@ in-heap e heap g c =
         referred = All-weaker P Q (λ r h. IfSome_then r.value h c.live) e.references.rows g.referred;
         references = g.references;
         pending = IfSome_then e.pending g.pending c.live;
-        rooted = All-weaker (λ (r : FunctionRoot). IsLiveAmong e.heap.values r.value) (λ r. IsLiveAmong heap.values r.value) (λ r h. c.live r.value h) e.function_roots g.rooted;
+        rooted = All-weaker (λ (r : TsfnRoot). IsLiveAmong e.heap.values r.value) (λ r. IsLiveAmong heap.values r.value)
+            (λ r h. c.live r.value h) e.tsfn_roots g.rooted;
       };
       stay = c.stay;
     }

@@ -29,7 +29,7 @@ use Rattle.napi_types.specs.parts.Values.{undefined_value}
 use Rattle.napi_types.specs.environment.Changes.{opening_change, gone_change, in_phase, number_of, with_noted_status}
 use Rattle.napi_types.specs.environment.Ends.{uncut_call_end, end_change, outermost_end_change}
 use Rattle.napi_types.specs.environment.Entering.{enter_change, asked_change}
-use Rattle.napi_types.specs.environment.Environment.{Environment, FunctionRoot}
+use Rattle.napi_types.specs.environment.Environment.{Environment, TsfnRoot}
 use Rattle.napi_types.specs.environment.Refusals.{refusal, early_refusal, depth_refusal}
 use Rattle.napi_types.specs.environment.Registry.{Registry, registry_of, with_registry}
 use Rattle.napi_types.specs.environment.SharedCalls.{with_root, without_root, after_shared}
@@ -167,22 +167,24 @@ begun-follows e inits book hooks f none c =
 
 -- A SHARED CALL
 -- a new thread-safe function keeps a live value
-abbrev KeepsLive : Heap → FunctionRoot → Type 0
+abbrev KeepsLive : Heap → TsfnRoot → Type 0
 KeepsLive heap r = IsLiveAmong heap.values r.value
 
-roots-live : (c : Call) (o : Out) (e : Environment) → IsConsistentHeap e.heap → All (KeepsLive e.heap) e.function_roots → All (KeepsLive e.heap) (with_root c o e).function_roots
+roots-live : (c : Call) (o : Out) (e : Environment) → IsConsistentHeap e.heap → All (KeepsLive e.heap) e.tsfn_roots
+    → All (KeepsLive e.heap) (with_root c o e).tsfn_roots
 roots-live (call.CreateThreadsafeFunction (Some f) entry maximum count finalizer context) (out.Function n) e g all =
-    All-push (KeepsLive e.heap) e.function_roots (record { function = n.0; value = handle_value e.heap f.0 }) all (handle-live e.heap f.0 g)
+    All-push (KeepsLive e.heap) e.tsfn_roots (record { function = n.0; value = handle_value e.heap f.0 }) all (handle-live e.heap f.0 g)
 roots-live _ _ e g all = all
 
 -- the functions that keep values alive may change
-rooted-follows : (e new : Environment) (roots : List FunctionRoot) → All (KeepsLive e.heap) roots → LeadsToConsistent e new → new.heap ≡ e.heap
-    → LeadsToConsistent e (record new { function_roots = roots })
+rooted-follows : (e new : Environment) (roots : List TsfnRoot) → All (KeepsLive e.heap) roots → LeadsToConsistent e new → new.heap ≡ e.heap
+    → LeadsToConsistent e (record new { tsfn_roots = roots })
 rooted-follows e new roots all follows same =
     let g : IsConsistentButFrames new = parts-of new follows.good in
     let live : All (KeepsLive new.heap) roots = subst (λ heap. All (KeepsLive heap) roots) (sym same) all in
-    let good : IsConsistentButFrames (record new { function_roots = roots }) = record { heap = g.heap; referred = g.referred; references = g.references; pending = g.pending; rooted = live } in
-    record { good = whole-of (record new { function_roots = roots }) good follows.good.frames follows.good.depth; stay = follows.stay }
+    let good : IsConsistentButFrames
+    (record new { tsfn_roots = roots }) = record { heap = g.heap; referred = g.referred; references = g.references; pending = g.pending; rooted = live } in
+    record { good = whole-of (record new { tsfn_roots = roots }) good follows.good.frames follows.good.depth; stay = follows.stay }
 
 noted-follows : (e : Environment) (c : Call) (s : Status) → IsConsistent e → LeadsToConsistent e (with_noted_status c s e)
 noted-follows e c s old =
@@ -192,7 +194,7 @@ noted-follows e c s old =
 
 shared-follows : (e : Environment) (c : Call) (r : Reply) → IsConsistent e → LeadsToConsistent e (after_shared c r e)
 shared-follows e c r old =
-    let roots : List FunctionRoot = (with_root c r.out e).function_roots in
+    let roots : List TsfnRoot = (with_root c r.out e).tsfn_roots in
     subst (LeadsToConsistent e) (sym (after_shared-alone c r e))
     (rooted-follows e (with_noted_status c r.status e) roots (roots-live c r.out e (parts-of e old).heap (parts-of e old).rooted) (noted-follows e c r.status old) refl)
 
@@ -217,8 +219,9 @@ move-follows : (m : Machine) (move : HubMove) → m.env.frames ≡ [] → IsCons
 move-follows m (Delivers d) none c = begun-follows m.env m.env.inits m.env.book m.env.hooks (frame_of_duty d) none c
 move-follows m (Closes n) none c = same-follows m.env c
 move-follows m (Finishes n) none c =
-    let left : List FunctionRoot = (without_root n m.env).function_roots in
-    rooted-follows m.env m.env left (All-filter (λ (r : FunctionRoot). not (r.function == n)) (KeepsLive m.env.heap) m.env.function_roots c.rooted) (same-follows m.env c) refl
+    let left : List TsfnRoot = (without_root n m.env).tsfn_roots in
+    rooted-follows m.env m.env left (All-filter (λ (r : TsfnRoot). not (r.function == n)) (KeepsLive m.env.heap) m.env.tsfn_roots c.rooted)
+    (same-follows m.env c) refl
 
 event-follows : (m : Machine) (event : Event) → m.env.frames ≡ [] → IsConsistent m.env → StepFollows m (event_step m event)
 event-follows m Opens none c =

@@ -23,7 +23,7 @@ use Rattle.napi_types.specs.parts.Heap.{handle_value}
 use Rattle.napi_types.specs.environment.Changes.{number_of}
 use Rattle.napi_types.specs.environment.Ends.{end_change}
 use Rattle.napi_types.specs.environment.Entering.{asked_change}
-use Rattle.napi_types.specs.environment.Environment.{Environment, FunctionRoot}
+use Rattle.napi_types.specs.environment.Environment.{Environment, TsfnRoot}
 use Rattle.napi_types.specs.environment.SharedCalls.{with_root, without_root, shared_entry}
 use Rattle.napi_types.specs.hub.HubMoves.{HubMove, Delivers, Closes, Finishes, hub_move}
 use Rattle.napi_types.specs.hub.HubEvents.{finish_step}
@@ -40,12 +40,12 @@ use Rattle.napi_types.proofs.runs.Forms.{Form, form-of, shared-what, ended-what,
 use Rattle.napi_types.proofs.runs.SharedSteps.{is_of_others}
 use Rattle.napi_types.proofs.runs.Chosen.{chosen-move}
 use Rattle.napi_types.proofs.runs.Runs.{along-entries}
-use Rattle.machine_laws.specs.FunctionRoots.{kept_by, is_finish_of, tells_finish, KeepsOn, NewFunctionsKeepTheirValue, FunctionsKeepUntilTheyFinish, FinishedFunctionsKeepNone}
+use Rattle.machine_laws.specs.TsfnRoots.{kept_by, is_finish_of, tells_finish, KeepsOn, NewFunctionsKeepTheirValue, FunctionsKeepUntilTheyFinish, FinishedFunctionsKeepNone}
 
 -- THE CALLS AND THE ENDS OF FRAMES
 -- these keep what functions keep
-abbrev Roots : Environment → List FunctionRoot
-Roots e = e.function_roots
+abbrev Roots : Environment → List TsfnRoot
+Roots e = e.tsfn_roots
 
 roots-ignored : Ignores Roots
 roots-ignored = record {
@@ -70,7 +70,7 @@ ended-roots v cut e = changed-keeps Roots call.Exit e (end_change v cut e).after
 keeps-same : (n : ℕ) (old new : Environment) → Roots new ≡ Roots old → KeepsOn n old new
 keeps-same n old new same = record {
   more = [];
-  kept = ap (λ (rs : List FunctionRoot). map (λ r. r.value) (filter (λ r. r.function == n) rs)) same ∙ sym (append-nil (kept_by n old));
+  kept = ap (λ (rs : List TsfnRoot). map (λ r. r.value) (filter (λ r. r.function == n) rs)) same ∙ sym (append-nil (kept_by n old));
 }
 
 keeps-then : (n : ℕ) (a b c : Environment) → KeepsOn n a b → KeepsOn n b c → KeepsOn n a c
@@ -80,29 +80,29 @@ keeps-then n a b c one two = record {
 }
 
 -- one root more
-rooted-more : (n : ℕ) (e : Environment) (r : FunctionRoot)
-    → kept_by n (record e { function_roots = e.function_roots ++ one r }) ≡ kept_by n e ++ map (λ r. r.value) (filter (λ r. r.function == n) (one r))
+rooted-more : (n : ℕ) (e : Environment) (r : TsfnRoot)
+    → kept_by n (record e { tsfn_roots = e.tsfn_roots ++ one r }) ≡ kept_by n e ++ map (λ r. r.value) (filter (λ r. r.function == n) (one r))
 rooted-more n e r =
-    ap (map (λ (r : FunctionRoot). r.value)) (filter-append (λ (r : FunctionRoot). r.function == n) e.function_roots (one r))
-    ∙ map-append (λ (r : FunctionRoot). r.value) (filter (λ r. r.function == n) e.function_roots) (filter (λ r. r.function == n) (one r))
+    ap (map (λ (r : TsfnRoot). r.value)) (filter-append (λ (r : TsfnRoot). r.function == n) e.tsfn_roots (one r))
+    ∙ map-append (λ (r : TsfnRoot). r.value) (filter (λ r. r.function == n) e.tsfn_roots) (filter (λ r. r.function == n) (one r))
 
 root-keeps : (n : ℕ) (c : Call) (o : Out) (e : Environment) → KeepsOn n e (with_root c o e)
 root-keeps n (call.CreateThreadsafeFunction (Some f) entry maximum count finalizer context) (out.Function k) e =
-    let r : FunctionRoot = record { function = k.0; value = handle_value e.heap f.0 } in
+    let r : TsfnRoot = record { function = k.0; value = handle_value e.heap f.0 } in
     record { more = map (λ r. r.value) (filter (λ r. r.function == n) (one r)); kept = rooted-more n e r }
 root-keeps n (call.CreateThreadsafeFunction (Some f) entry maximum count finalizer context) o e = keeps-same n e e refl
 root-keeps n c o e = keeps-same n e e refl
 
 -- those of another function are lost
-lost-others : (n k : ℕ) → (k == n) ≡ false → (rs : List FunctionRoot)
+lost-others : (n k : ℕ) → (k == n) ≡ false → (rs : List TsfnRoot)
     → filter (λ r. r.function == n) (filter (λ r. not (r.function == k)) rs) ≡ filter (λ r. r.function == n) rs
 lost-others n k apart [] = refl
 lost-others n k apart (r ∷ rs) = by (lost-others n k apart rs) (r.function == k) (r.function == n) refl refl
   where
-    left : List FunctionRoot
+    left : List TsfnRoot
     left = filter (λ r. not (r.function == k)) rs
 
-    P : FunctionRoot → Bool
+    P : TsfnRoot → Bool
     P = λ q. q.function == n
 
     by : filter P left ≡ filter P rs → (b c : Bool) → (r.function == k) ≡ b → (r.function == n) ≡ c
@@ -114,14 +114,14 @@ lost-others n k apart (r ∷ rs) = by (lost-others n k apart rs) (r.function == 
     by rest false c other ours = ap (λ b. cond b (r ∷ filter P left) (filter P left)) ours ∙ ap (λ qs. cond c (r ∷ qs) qs) rest
 
 -- its own are all lost
-lost-own : (n k : ℕ) → (k == n) ≡ true → (rs : List FunctionRoot) → filter (λ r. r.function == n) (filter (λ r. not (r.function == k)) rs) ≡ []
+lost-own : (n k : ℕ) → (k == n) ≡ true → (rs : List TsfnRoot) → filter (λ r. r.function == n) (filter (λ r. not (r.function == k)) rs) ≡ []
 lost-own n k same [] = refl
 lost-own n k same (r ∷ rs) = by (lost-own n k same rs) (r.function == k) (r.function == n) refl refl
   where
-    left : List FunctionRoot
+    left : List TsfnRoot
     left = filter (λ r. not (r.function == k)) rs
 
-    P : FunctionRoot → Bool
+    P : TsfnRoot → Bool
     P = λ q. q.function == n
 
     by : filter P left ≡ [] → (b c : Bool) → (r.function == k) ≡ b → (r.function == n) ≡ c → filter P (cond (not b) (r ∷ left) left) ≡ []
@@ -134,7 +134,7 @@ lost-own n k same (r ∷ rs) = by (lost-own n k same rs) (r.function == k) (r.fu
 finished-keeps : (n k : ℕ) (e : Environment) → (k == n) ≡ false → KeepsOn n e (without_root k e)
 finished-keeps n k e apart = record {
   more = [];
-  kept = ap (map (λ (r : FunctionRoot). r.value)) (lost-others n k apart e.function_roots) ∙ sym (append-nil (kept_by n e));
+  kept = ap (map (λ (r : TsfnRoot). r.value)) (lost-others n k apart e.tsfn_roots) ∙ sym (append-nil (kept_by n e));
 }
 
 -- EVERY STEP
@@ -200,7 +200,7 @@ module _ (m : Machine) (f : HandleId) (entry : Option ℕ) (maximum count : ℕ)
 
   new-kept : kept_by n.0 (with_root creation (out.Function n) m.env) ≡ kept_by n.0 m.env ++ one (handle_value m.env.heap f.0)
   new-kept =
-      let r : FunctionRoot = record { function = n.0; value = handle_value m.env.heap f.0 } in
+      let r : TsfnRoot = record { function = n.0; value = handle_value m.env.heap f.0 } in
       rooted-more n.0 m.env r ∙ ap (λ b. kept_by n.0 m.env ++ map (λ r. r.value) (cond b (one r) [])) (eq-eqb n.0 n.0 refl)
 
   shared-new : (c : Call) (o : Out) → (shared_call_step m c o).entry.what ≡ what.Call creation → (shared_call_step m c o).entry.reply.out ≡ out.Function n
@@ -253,7 +253,7 @@ module _ (n : ℕ) (m : Machine) where
   event-none (Moves (Finishes k)) next is finish =
       let x : Entry = host_entry host.FinishTsfn (out.Function (record { 0 = k })) in
       let same : (k == n) ≡ true = sym (ap (λ o. is_finish_of n (finish_step m.hub x o).entry) (chosen-move m (Finishes k) next)) ∙ finish in
-      ap (map (λ (r : FunctionRoot). r.value)) (lost-own n k same m.env.function_roots)
+      ap (map (λ (r : TsfnRoot). r.value)) (lost-own n k same m.env.tsfn_roots)
   event-none (Moves (Delivers d)) next is finish = cc
   event-none _ next is finish = cc
 

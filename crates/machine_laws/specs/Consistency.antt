@@ -47,7 +47,7 @@ pub record IsConsistent (e : Environment) : Type 0 where
   pub referred : All (λ r. IfSome r.value (IsLiveAmong e.heap.values)) e.references.rows
   pub pending : IfSome e.pending (IsLiveAmong e.heap.values)
   -- so is what a thread-safe function keeps alive
-  pub rooted : All (λ r. IsLiveAmong e.heap.values r.value) e.function_roots
+  pub rooted : All (λ r. IsLiveAmong e.heap.values r.value) e.tsfn_roots
   -- the references are a finite map
   pub references : IsMap e.references
   -- the children of a value are live, and so are the starting values

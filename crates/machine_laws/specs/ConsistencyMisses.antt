@@ -48,7 +48,7 @@ referring rs ns = record (in_init_frame (holding two_held)) { references = recor
 
 -- one with a thread-safe function that keeps this value alive
 abbrev pub rooting : ℕ → Environment
-rooting value = record (in_init_frame (holding two_held)) { function_roots = record { function = 1; value = value } ∷ [] }
+rooting value = record (in_init_frame (holding two_held)) { tsfn_roots = record { function = 1; value = value } ∷ [] }
 
 -- an environment with so many frames, each with its scopes
 abbrev pub deep : ℕ → Environment

@@ -26,7 +26,6 @@ pub mod FrameCutForMemory
 pub mod FrameCutFull
 pub mod FrameCutInJournal
 pub mod FullQueue
-pub mod FunctionRoots
 pub mod HandleAfterScope
 pub mod HandleLaws
 pub mod HubWords
@@ -50,6 +49,7 @@ pub mod StaleHandle
 pub mod StrongAndWeak
 pub mod ThreadCutFull
 pub mod TornWithoutEntry
+pub mod TsfnRoots
 pub mod TwoAddons
 pub mod TwoFunctions
 pub mod TwoWorks

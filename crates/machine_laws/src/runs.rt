@@ -1,5 +1,5 @@
 //! Laws over all runs, and over all stores.
-ghost use Rattle.machine_laws.specs.FunctionRoots.{NewFunctionsKeepTheirValue, FunctionsKeepUntilTheyFinish, FinishedFunctionsKeepNone};
+ghost use Rattle.machine_laws.specs.TsfnRoots.{NewFunctionsKeepTheirValue, FunctionsKeepUntilTheyFinish, FinishedFunctionsKeepNone};
 ghost use Rattle.machine_laws.specs.RunLaws.{FrontsAreRuns, RunsAreComputed, EntriesCountOnTheirList, OthersLeaveRegisters, ReachIsLeast};
 
 /// What a run is made of.

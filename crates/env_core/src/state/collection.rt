@@ -37,7 +37,7 @@ impl State {
             &self.store,
             &self.scopes,
             &self.references,
-            &self.function_roots,
+            &self.tsfn_roots,
             self.exceptions.pending(),
         )?;
         // What is attached to live values is told apart by their creation numbers, and a value has one wrap and one tag at most.

@@ -9,13 +9,13 @@ ghost use Rattle.napi_types.specs.parts.Heap.{handle_body};
 ghost use Rattle.napi_types.specs.environment.Ends.{outermost_end_change};
 ghost use Rattle.napi_types.specs.environment.Refusals.{refusal, timely_refusal};
 ghost use Rattle.napi_types.specs.environment.SharedCalls.{after_delivery, after_shared, shared_call_of, target_of, with_root};
-ghost use Rattle.env_core.specs.FunctionRooting.{HasRootPlace};
+ghost use Rattle.env_core.specs.TsfnRooting.{HasRootPlace};
 ghost use Rattle.env_core.specs.Sharing.{is_rooting, wants_root as wants_root_of};
 
 use super::State;
 use super::tickets::begin_frame;
-use crate::function_roots::RootRoom;
 use crate::handles::body_of;
+use crate::tsfn_roots::RootRoom;
 use napi_types::{
     Body, Call, DueInfo, HandleId, NoMemory, Out, Reply, SharedCall, Status, Target, Why,
 };

@@ -33,13 +33,13 @@ use Rattle.napi_types.proofs.hub.HubHolds.{duty-stage}
 
 -- THE ENVIRONMENT AFTER A SHARED CALL
 -- a new thread-safe function may keep a value alive, and nothing else changes with it
-pub with_root-alone : (c : Call) (o : Out) (e : Environment) → with_root c o e ≡ record e { function_roots = (with_root c o e).function_roots }
+pub with_root-alone : (c : Call) (o : Out) (e : Environment) → with_root c o e ≡ record e { tsfn_roots = (with_root c o e).tsfn_roots }
 with_root-alone (call.CreateThreadsafeFunction (Some f) entry maximum count finalizer context) (out.Function n) e = refl
 with_root-alone _ _ e = refl
 
 -- besides, the status is noted and the ask is counted
 pub after_shared-alone : (c : Call) (r : Reply) (e : Environment)
-    → after_shared c r e ≡ record (with_noted_status c r.status e) { function_roots = (with_root c r.out e).function_roots }
+    → after_shared c r e ≡ record (with_noted_status c r.status e) { tsfn_roots = (with_root c r.out e).tsfn_roots }
 after_shared-alone c r e = ap (with_noted_status c r.status) (with_root-alone c r.out e)
 
 -- THE STAGE OF THE HUB

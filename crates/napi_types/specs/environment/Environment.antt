@@ -14,7 +14,7 @@ use Rattle.napi_types.specs.parts.InstanceData.{Instances}
 use Rattle.napi_types.specs.parts.References.{ReferenceMap, no_references}
 
 -- the value that a thread-safe function keeps alive
-pub record FunctionRoot : Type 0 where
+pub record TsfnRoot : Type 0 where
   pub function : ℕ
   pub value : ℕ
 
@@ -43,7 +43,7 @@ pub record Environment : Type 0 where
   pub hooks : List Hook
   pub instances : Instances
   -- the values that thread-safe functions keep alive until they finish
-  pub function_roots : List FunctionRoot
+  pub tsfn_roots : List TsfnRoot
   -- the creation number of the value that is the pending exception, where one is pending
   pub pending : Option ℕ
   -- the status of the last call
@@ -73,7 +73,7 @@ new_environment given = record {
   book = [];
   hooks = [];
   instances = replicate given.addons None;
-  function_roots = [];
+  tsfn_roots = [];
   pending = None;
   last = status.Ok;
 }

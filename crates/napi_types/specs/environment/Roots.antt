@@ -10,7 +10,7 @@ use Rattle.napi_types.specs.environment.Environment.{Environment}
 -- the roots: the starting values, those of the handles in open scopes of all frames, those of strong references, those that thread-safe functions keep, and the
 -- pending exception
 abbrev pub roots : Environment → List ℕ
-roots e = numbers starting_values ++ map (λ h. h.value) (held_by_frames e.heap.scopes) ++ strong_values e.references ++ map (λ r. r.value) e.function_roots ++ option_to_list e.pending
+roots e = numbers starting_values ++ map (λ h. h.value) (held_by_frames e.heap.scopes) ++ strong_values e.references ++ map (λ r. r.value) e.tsfn_roots ++ option_to_list e.pending
 
 -- what the roots reach
 abbrev pub reach : Environment → List ℕ

@@ -26,7 +26,8 @@ use Rattle.napi_types.specs.environment.Environment.{Environment}
 use Rattle.napi_types.specs.environment.Refusals.{refusal}
 
 -- WHAT IS HANDED OVER
--- where the items of a new thread-safe function are delivered: at its call-js entry in the calling addon, where one is named, or else at its function's own entry
+-- where the items of a new thread-safe function are delivered: at its call-js entry in the calling addon, where one is named, or else at its function's own
+-- entry
 abbrev pub target_of : Environment → Call → Option Target
 target_of e (call.CreateThreadsafeFunction f (Some entry) _ _ _ _) = Some (record { addon = caller_of e.frames; entry = entry; torn_runs = true })
 target_of e (call.CreateThreadsafeFunction (Some f) None _ _ _ _) =
@@ -81,12 +82,12 @@ SharedRefusals = (e : Environment) (c : Call) → is_shared c ≡ true
 -- a new thread-safe function keeps the value of its function alive, where it has one
 abbrev pub with_root : Call → Out → Environment → Environment
 with_root (call.CreateThreadsafeFunction (Some f) _ _ _ _ _) (out.Function n) e =
-    record e { function_roots = e.function_roots ++ one (record { function = n.0; value = handle_value e.heap f.0 }) }
+    record e { tsfn_roots = e.tsfn_roots ++ one (record { function = n.0; value = handle_value e.heap f.0 }) }
 with_root _ _ e = e
 
 -- until it finishes
 abbrev pub without_root : ℕ → Environment → Environment
-without_root n e = record e { function_roots = filter (λ r. not (r.function == n)) e.function_roots }
+without_root n e = record e { tsfn_roots = filter (λ r. not (r.function == n)) e.tsfn_roots }
 
 -- the environment after the answer: the status is noted, and the ask is counted
 abbrev pub after_shared : Call → Reply → Environment → Environment

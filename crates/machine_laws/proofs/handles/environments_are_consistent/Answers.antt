@@ -6,7 +6,7 @@ use Rattle.napi_types.specs.parts.Frames.{most_frames}
 use Rattle.napi_types.specs.parts.Heap.{new_heap}
 use Rattle.napi_types.specs.parts.HeapChanges.{with_handle, with_frame}
 use Rattle.napi_types.specs.parts.Values.{undefined_value, null_value, fresh_value}
-use Rattle.napi_types.specs.environment.Environment.{Environment, FunctionRoot}
+use Rattle.napi_types.specs.environment.Environment.{Environment, TsfnRoot}
 use Rattle.machine_laws.specs.Consistency.{IsConsistent, IsLiveAmong}
 use Rattle.machine_laws.specs.ConsistencyMisses.{IsStrict, in_init_frame, holding, two_held, deep, rooting, reference}
 use Rattle.machine_laws.proofs.ConsistentRuns.{environments-are-consistent, new-heap-good}
@@ -32,7 +32,7 @@ two-fit =
 
 rooted-fit : IsConsistent (rooting undefined_value)
 rooted-fit =
-    let P : FunctionRoot → Type 0 = λ r. IsLiveAmong (holding two_held).values r.value in
+    let P : TsfnRoot → Type 0 = λ r. IsLiveAmong (holding two_held).values r.value in
     whole-of (rooting undefined_value)
     (record {
       heap = two-good;

@@ -15,31 +15,34 @@ pub collect-requires-clause-starting : goal.collect-requires-clause-starting
 collect-requires-clause-starting c =
     let s = c.self.inside in
     let roots = numbers_of c.deref.result.now in
-    let P : Option ℕ → Type 0 = λ p. AreRoots s.store s.scopes (map_of s.references) s.function_roots p roots in
-    roots-start s.store s.scopes (map_of s.references) s.function_roots s.exceptions.pending roots (subst P c.pending.ensures (rw c.deref.ensures.value c.in_ok-roots.ensures))
+    let P : Option ℕ → Type 0 = λ p. AreRoots s.store s.scopes (map_of s.references) s.tsfn_roots p roots in
+    roots-start s.store s.scopes (map_of s.references) s.tsfn_roots s.exceptions.pending roots
+    (subst P c.pending.ensures (rw c.deref.ensures.value c.in_ok-roots.ensures))
 
 pub empty_of-requires : goal.empty_of-requires
 empty_of-requires c =
     let s = c.self.inside in
     let k = c.in_ok-freed.ensures in
     let roots = numbers_of c.deref.result.now in
-    let P : Option ℕ → Type 0 = λ p. AreRoots s.store s.scopes (map_of s.references) s.function_roots p roots in
+    let P : Option ℕ → Type 0 = λ p. AreRoots s.store s.scopes (map_of s.references) s.tsfn_roots p roots in
     let are = subst P c.pending.ensures (rw c.deref.ensures.value c.in_ok-roots.ensures) in
     let freed = numbers_of c.in_ok-freed.freed.items in
     let others = frees-others s.store c.collect.new.store roots freed k.freed k.frees k.roots in
-    rw c.deref-2.ensures.value (strong-kept s.store c.collect.new.store s.scopes (map_of s.references) s.function_roots s.exceptions.pending roots freed (reached s.store roots) are others)
+    rw c.deref-2.ensures.value (strong-kept s.store c.collect.new.store s.scopes (map_of s.references) s.tsfn_roots s.exceptions.pending roots freed
+    (reached s.store roots) are others)
 
 pub invariant_of-self-2 : goal.invariant_of-self-2
 invariant_of-self-2 c =
     let s = c.self.inside in
     let k = c.in_ok-freed.ensures in
     let roots = numbers_of c.deref.result.now in
-    let P : Option ℕ → Type 0 = λ p. AreRoots s.store s.scopes (map_of s.references) s.function_roots p roots in
+    let P : Option ℕ → Type 0 = λ p. AreRoots s.store s.scopes (map_of s.references) s.tsfn_roots p roots in
     let are = subst P c.pending.ensures (rw c.deref.ensures.value c.in_ok-roots.ensures) in
     let freed = numbers_of c.in_ok-freed.freed.items in
     let others = frees-others s.store c.collect.new.store roots freed k.freed k.frees k.roots in
     let alive = reached s.store roots in (
-      state-collected s.store c.collect.new.store s.scopes s.frames (map_of s.references) (map_of c.empty_of.new.self) s.function_roots s.exceptions.pending roots freed alive
+      state-collected s.store c.collect.new.store s.scopes s.frames (map_of s.references)
+          (map_of c.empty_of.new.self) s.tsfn_roots s.exceptions.pending roots freed alive
           c.self.invariant.0 are others (rw c.deref-2.ensures.value at c.empty_of.ensures.emptied),
       rw (c.gone_all.ensures, c.deref-3.ensures.value)
           (attached-left s.store c.collect.new.store roots freed alive others c.invariant.ensures s.registry.parts.attachments c.self.invariant.1),
@@ -51,14 +54,15 @@ returns-clause-ok c =
     let s = c.self.inside in
     let k = c.in_ok-freed.ensures in
     let roots = numbers_of c.deref.result.now in
-    let P : Option ℕ → Type 0 = λ p. AreRoots s.store s.scopes (map_of s.references) s.function_roots p roots in
+    let P : Option ℕ → Type 0 = λ p. AreRoots s.store s.scopes (map_of s.references) s.tsfn_roots p roots in
     let are = subst P c.pending.ensures (rw c.deref.ensures.value c.in_ok-roots.ensures) in
     let freed = numbers_of c.in_ok-freed.freed.items in
     let others = frees-others s.store c.collect.new.store roots freed k.freed k.frees k.roots in
     let alive = reached s.store roots in
     rw (← c.self.view_is)
     (rw (c.plain.ensures, c.len.ensures, c.gone_all.ensures)
-    (collected-answers (the_view s) s.store c.collect.new.store s.scopes s.frames (map_of s.references) (map_of c.empty_of.new.self) s.function_roots s.exceptions.pending roots freed (reached s.store roots) c.in_ok-freed.freed.len
+    (collected-answers (the_view s) s.store c.collect.new.store s.scopes s.frames (map_of s.references)
+    (map_of c.empty_of.new.self) s.tsfn_roots s.exceptions.pending roots freed (reached s.store roots) c.in_ok-freed.freed.len
     c.self.invariant.0 are refl others k.graph (c.in_ok-freed.freed.ok.0 ∙ k.count) (rw c.deref-2.ensures.value at c.empty_of.ensures.emptied) _ _
     (rw c.deref-3.ensures.value
     (seen-left s.store c.collect.new.store roots freed alive others c.invariant.ensures s.registry.parts.attachments c.self.invariant.1))

@@ -4,7 +4,7 @@ use Rattle.env_registry.specs.Registering.{registration_of, ticket_for}
 use Rattle.env_core.specs.contracts.state.State.{the_view}
 use Rattle.env_values.specs.SeenValues.{heap_of}
 use Rattle.env_core.proofs.Attaching.{attached-kept, attachments-kept}
-use Rattle.env_core.proofs.FunctionRooting.{roots-live, roots-kept}
+use Rattle.env_core.proofs.TsfnRooting.{roots-live, roots-kept}
 use Rattle.env_core.proofs.Registered.{begun-asked, attached-finalized, given-frames, external-answers}
 use Rattle.env_core.proofs.Unrefused.{on-err}
 use Rattle.env_core.proofs.ValueAnswers.{pending-live, pending-kept, referred-live, references-kept, same-seen}
@@ -16,7 +16,8 @@ returns-in_err-value-clause-err c =
     let g = c.make_held in
     rw (← c.self.view_is, c.reserve_finalizer.ensures.same)
     (on-err _
-    (same-seen (the_view s) s.store g.new.store s.scopes g.new.scopes (map_of s.references) s.function_roots s.registry.parts.attachments s.exceptions.pending g.ensures.keeps.values
+    (same-seen (the_view s) s.store g.new.store s.scopes g.new.scopes
+    (map_of s.references) s.tsfn_roots s.registry.parts.attachments s.exceptions.pending g.ensures.keeps.values
     c.self.invariant.0.referred c.self.invariant.0.rooted c.self.invariant.1 c.self.invariant.0.pending c.in_err-value.ensures.err))
 
 pub invariant_of-self-2 : goal.invariant_of-self-2
@@ -31,7 +32,7 @@ invariant_of-self-2 c =
         calls = g.ensures.keeps.scopes.calls ∙ i.calls;
         pending = pending-live s.store g.new.store s.exceptions.pending g.ensures.keeps.values i.pending;
         referred = referred-live s.store g.new.store (map_of s.references) g.ensures.keeps.values i.referred;
-        rooted = roots-live s.store g.new.store s.function_roots g.ensures.keeps.values i.rooted;
+        rooted = roots-live s.store g.new.store s.tsfn_roots g.ensures.keeps.values i.rooted;
       },
       rw (c.attach-made.ensures.attached, c.reserve_finalizer.ensures.same)
           (attached-finalized g.new.store s.registry.parts.attachments c.in_ok-value.value.0 (ticket_for s.registry.parts.book f)
@@ -52,7 +53,7 @@ returns-clause-ok c =
       c.reserve_finalizer.ensures.same,
       pending-kept s.store g.new.store s.exceptions.pending g.ensures.keeps.values c.self.invariant.0.pending,
       references-kept s.store g.new.store (map_of s.references) g.ensures.keeps.values c.self.invariant.0.referred,
-      roots-kept s.store g.new.store s.function_roots g.ensures.keeps.values c.self.invariant.0.rooted,
+      roots-kept s.store g.new.store s.tsfn_roots g.ensures.keeps.values c.self.invariant.0.rooted,
     )
     (external-answers (the_view s) s.store g.new.store s.registry.parts.attachments s.registry.parts.book c.args.payload c.args.hint c.args.finalizer c.in_ok-value.out (heap_of g.new.store g.new.scopes) v f
     c.in_ok-value.ensures.gives c.in_ok-value.ensures.number (attachments-kept s.store g.new.store g.ensures.keeps.values s.registry.parts.attachments c.self.invariant.1)

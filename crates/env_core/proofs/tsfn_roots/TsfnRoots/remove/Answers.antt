@@ -2,9 +2,9 @@ use Rattle.std.proofs.Common.{◌∙◌, false, filter, slice_set, refl, ap, sym
 use Rattle.std.proofs.lemmas.List.{length-set}
 use Rattle.std.proofs.lemmas.Fn.{filter_same}
 use Rattle.napi_types.proofs.plain.Maps.{filter_all}
-use Rattle.env_core.specs.FunctionRooting.{kept_roots, is_of_another}
-use Rattle.env_core.proofs.FunctionRooting.{is_left, left-kept, rows-left, rows-closed, closed-kept, AreOfOthers, root-dropped}
-use Rattle.env_core.proofs.function_roots.FunctionRoots.remove.Goals as goal
+use Rattle.env_core.specs.TsfnRooting.{kept_roots, is_of_another}
+use Rattle.env_core.proofs.TsfnRooting.{is_left, left-kept, rows-left, rows-closed, closed-kept, AreOfOthers, root-dropped}
+use Rattle.env_core.proofs.tsfn_roots.TsfnRoots.remove.Goals as goal
 
 pub invariant_of-self : goal.invariant_of-self
 invariant_of-self c =

@@ -1,11 +1,11 @@
 use Rattle.std.proofs.Common.{◌≡◌, ◌∙◌, ◌++◌, ◌<◌, true, refl, ap, sym}
 use Rattle.std.specs.List.{All}
 use Rattle.napi_types.specs.plain.Lists.{one}
-use Rattle.env_core.specs.declared.function_roots.RootRow.{RootRow}
-use Rattle.env_core.specs.FunctionRooting.{root_of_row, kept_roots, AreRootRows}
-use Rattle.env_core.proofs.FunctionRooting.{rows-closed, closed-kept, rows-pushed, kept-pushed}
-use Rattle.env_core.proofs.function_roots.FunctionRoots.push.Goals.{then-capacity-len, else-capacity-len, then-self, else-self}
-use Rattle.env_core.proofs.function_roots.FunctionRoots.push.Goals as goal
+use Rattle.env_core.specs.declared.tsfn_roots.RootRow.{RootRow}
+use Rattle.env_core.specs.TsfnRooting.{root_of_row, kept_roots, AreRootRows}
+use Rattle.env_core.proofs.TsfnRooting.{rows-closed, closed-kept, rows-pushed, kept-pushed}
+use Rattle.env_core.proofs.tsfn_roots.TsfnRoots.push.Goals.{then-capacity-len, else-capacity-len, then-self, else-self}
+use Rattle.env_core.proofs.tsfn_roots.TsfnRoots.push.Goals as goal
 
 pub invariant_of-self : goal.invariant_of-self
 invariant_of-self c =

@@ -1,11 +1,11 @@
 //! The roots of thread-safe functions.
 ghost use Rattle.std.specs.Prelude.{◌≡◌, ◌≤◌, OnOk};
 ghost use Rattle.napi_types.specs.environment.SharedCalls.{without_root};
-ghost use Rattle.env_core.specs.FunctionRooting.{HasRootPlace, with_function_root};
+ghost use Rattle.env_core.specs.TsfnRooting.{HasRootPlace, with_function_root};
 
 use super::State;
-use crate::function_roots::RootRoom;
 use crate::handles::value_of;
+use crate::tsfn_roots::RootRoom;
 use napi_types::{HandleId, NoMemory, TsfnId};
 
 impl State {
@@ -16,7 +16,7 @@ impl State {
         ensures place { OnOk result (HasRootPlace room.new self.now) }
         ensures kept { room.old ≤ room.new }
     {
-        room.reserve(self.function_roots.places())
+        room.reserve(self.tsfn_roots.places())
     }
 
     /// A function that was made keeps the value of a handle alive, until its root is dropped. It takes no memory: there is room.
@@ -27,7 +27,7 @@ impl State {
         ensures { self.new ≡ with_function_root function.0 handle self.old }
     {
         let value = value_of(&self.store, &self.scopes, handle);
-        self.function_roots.push(room, function, value);
+        self.tsfn_roots.push(room, function, value);
     }
 
     /// A function keeps no value alive any more.
@@ -36,6 +36,6 @@ impl State {
     pub fn drop_root(&mut self, function: TsfnId)
         ensures { self.new ≡ without_root function.0 self.old }
     {
-        self.function_roots.remove(function);
+        self.tsfn_roots.remove(function);
     }
 }

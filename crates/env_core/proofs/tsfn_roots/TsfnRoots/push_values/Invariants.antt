@@ -1,7 +1,7 @@
 use Rattle.std.proofs.Common.{◌≡◌, ◌++◌, map, take}
 use Rattle.value_store.specs.StoreChanges.{numbers_of}
-use Rattle.env_core.specs.FunctionRooting.{kept_roots}
-use Rattle.env_core.proofs.function_roots.FunctionRoots.push_values.Given as goal
+use Rattle.env_core.specs.TsfnRooting.{kept_roots}
+use Rattle.env_core.proofs.tsfn_roots.TsfnRoots.push_values.Given as goal
 
 -- the values of the roots that were passed are pushed
 abbrev pub invariant-loop-at : goal.invariant-loop-at

@@ -19,7 +19,7 @@ use Rattle.napi_types.specs.runs.Run.{IsNext, IsRunBy, after, final}
 
 -- the values that the thread-safe function of this number keeps alive. They are roots
 abbrev pub kept_by : ℕ → Environment → List ℕ
-kept_by n e = map (λ r. r.value) (filter (λ r. r.function == n) e.function_roots)
+kept_by n e = map (λ r. r.value) (filter (λ r. r.function == n) e.tsfn_roots)
 
 -- a new one keeps the value of its function, as the handle gave it before the call
 abbrev pub NewFunctionsKeepTheirValue : Type 0

@@ -1,9 +1,9 @@
 use Rattle.std.proofs.Common.{◌-◌, ◌<◌, refl, subst, arith}
 use Rattle.std.specs.VecDeque.{deque_len}
 use Rattle.std.proofs.lemmas.Bool.{ltb-true}
-use Rattle.env_core.specs.declared.function_roots.RootRow.{RootRow}
-use Rattle.env_core.proofs.FunctionRooting.{above-newest}
-use Rattle.env_core.proofs.function_roots.is_above_newest.Goals as goal
+use Rattle.env_core.specs.declared.tsfn_roots.RootRow.{RootRow}
+use Rattle.env_core.proofs.TsfnRooting.{above-newest}
+use Rattle.env_core.proofs.tsfn_roots.is_above_newest.Goals as goal
 
 pub returns-in-Some : goal.returns-in-Some
 returns-in-Some c =

@@ -4,7 +4,7 @@ ghost use Rattle.std.specs.List.{All};
 ghost use Rattle.std.specs.VecDeque.{deque_len, deque_capacity};
 ghost use Rattle.napi_types.specs.plain.Lists.{one};
 ghost use Rattle.value_store.specs.StoreChanges.{numbers_of};
-ghost use Rattle.env_core.specs.FunctionRooting.{kept_roots, AreRising, IsKeptAt, is_of_another};
+ghost use Rattle.env_core.specs.TsfnRooting.{kept_roots, AreRising, IsKeptAt, is_of_another};
 
 use napi_types::{NoMemory, TsfnId, ValueId};
 use std::alloc::Global;
@@ -22,7 +22,7 @@ struct RootRow {
 
 /// The values that thread-safe functions keep alive, in the order in which the functions were made.
 #[derive(Drop)]
-pub struct FunctionRoots {
+pub struct TsfnRoots {
     // The row of a root that is dropped stays, so that no others move. Once more than half of the rows are such, all such rows go.
     rows: VecDeque<RootRow>,
     dropped: usize,
@@ -30,13 +30,13 @@ pub struct FunctionRoots {
     rises: bool,
 }
 
-impl Model for FunctionRoots {
+impl Model for TsfnRoots {
     ghost use Rattle.std.specs.Prelude.{List};
-    ghost use Rattle.napi_types.specs.environment.Environment.{FunctionRoot};
+    ghost use Rattle.napi_types.specs.environment.Environment.{TsfnRoot};
 
-    ghost Value = { List FunctionRoot };
+    ghost Value = { List TsfnRoot };
 
-    ghost use Rattle.env_core.specs.FunctionRooting.{kept_roots, AreRootRows};
+    ghost use Rattle.env_core.specs.TsfnRooting.{kept_roots, AreRootRows};
 
     ghost view = { λ r. kept_roots r.rows.items };
 
@@ -85,12 +85,12 @@ impl RootRoom {
     }
 }
 
-impl FunctionRoots {
+impl TsfnRoots {
     /// No function keeps a value alive. It takes no memory.
-    pub fn new(alloc: Global) -> FunctionRoots
+    pub fn new(alloc: Global) -> TsfnRoots
         ensures { result ≡ [] }
     {
-        FunctionRoots {
+        TsfnRoots {
             rows: VecDeque::new(alloc),
             dropped: 0,
             rises: true,

@@ -1,7 +1,7 @@
 use Rattle.std.proofs.Common.{rules}
 use Rattle.std.proofs.lemmas.List.Sorted.{answers_always}
-use Rattle.env_core.proofs.FunctionRooting.{row_number, search-kept, search-gone, search-none}
-use Rattle.env_core.proofs.function_roots.kept_at.Goals as goal
+use Rattle.env_core.proofs.TsfnRooting.{row_number, search-kept, search-gone, search-none}
+use Rattle.env_core.proofs.tsfn_roots.kept_at.Goals as goal
 
 pub returns-in-Ok-clause-kept : goal.returns-in-Ok-clause-kept
 returns-in-Ok-clause-kept c =

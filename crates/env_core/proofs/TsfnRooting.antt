@@ -9,14 +9,14 @@ use Rattle.std.proofs.lemmas.List.{get_or_default, length-append, length-map, ma
 use Rattle.std.proofs.lemmas.List.Elements.{All-nil, All-cons, All-head, All-tail, All-weaker, filter-append}
 use Rattle.napi_types.specs.plain.Lists.{one, as_map}
 use Rattle.napi_types.specs.parts.Graph.{StoreState, IsLive, number_in}
-use Rattle.napi_types.specs.environment.Environment.{FunctionRoot}
+use Rattle.napi_types.specs.environment.Environment.{TsfnRoot}
 use Rattle.napi_types.proofs.plain.Found.{IsRising, same-tells, apart-below, apart-above, passing, map-rising, rising-map, rising-changed, as_map-with_record, as_map-kept}
 use Rattle.napi_types.proofs.plain.Maps.{filter_all, map-filter, with_record-last}
 use Rattle.handle_scope.specs.Marks.{Rises}
 use Rattle.handle_scope.proofs.HandleNumbers.{search-found, search-lacks}
 use Rattle.env_values.specs.SeenValues.{KeepsValues}
-use Rattle.env_core.specs.declared.function_roots.RootRow.{RootRow}
-use Rattle.env_core.specs.FunctionRooting.{root_of_row, kept_roots, is_of_another, AreRising, IsKeptAt, AreRootRows, root_seen, function_roots_seen, RootsAreLive}
+use Rattle.env_core.specs.declared.tsfn_roots.RootRow.{RootRow}
+use Rattle.env_core.specs.TsfnRooting.{root_of_row, kept_roots, is_of_another, AreRising, IsKeptAt, AreRootRows, root_seen, tsfn_roots_seen, RootsAreLive}
 
 abbrev pub row_number : RootRow → ℕ
 row_number r = r.function.0
@@ -25,7 +25,7 @@ abbrev pub is_row_kept : RootRow → Bool
 is_row_kept r = r.kept
 
 -- the roots that are not of the function are all
-abbrev pub AreOfOthers : ℕ → List FunctionRoot → Type 0
+abbrev pub AreOfOthers : ℕ → List TsfnRoot → Type 0
 AreOfOthers n roots = All (λ r. is_of_another n r ≡ true) roots
 
 -- NUMBERS THAT RISE
@@ -73,7 +73,7 @@ search-kept n at count rows r all within position there kept =
 -- no row that is kept is of a function where none of its rows is
 none-kept : (n : ℕ) (rows : List RootRow) → ((i : ℕ) (d : RootRow) → i < length rows → row_number (slice_index_or rows i d) ≡ n → is_row_kept (slice_index_or rows i d) ≡ false)
     → AreOfOthers n (kept_roots rows)
-none-kept n [] none = All-nil (λ (r : FunctionRoot). is_of_another n r ≡ true)
+none-kept n [] none = All-nil (λ (r : TsfnRoot). is_of_another n r ≡ true)
 none-kept n (r ∷ rs) none = by r.kept refl (none-kept n rs (λ i d inside. none (suc i) d (omega (arith, inside))))
   where
     apart : (a : Bool) → (row_number r == n) ≡ a → r.kept ≡ true → not a ≡ true
@@ -81,7 +81,7 @@ none-kept n (r ∷ rs) none = by r.kept refl (none-kept n rs (λ i d inside. non
     apart false same kept = refl
 
     by : (b : Bool) → r.kept ≡ b → AreOfOthers n (kept_roots rs) → AreOfOthers n (map root_of_row (cond b (r ∷ filter is_row_kept rs) (filter is_row_kept rs)))
-    by true kept rest = All-cons (λ (q : FunctionRoot). is_of_another n q ≡ true) (root_of_row r) (kept_roots rs) (apart (row_number r == n) refl kept) rest
+    by true kept rest = All-cons (λ (q : TsfnRoot). is_of_another n q ≡ true) (root_of_row r) (kept_roots rs) (apart (row_number r == n) refl kept) rest
     by false kept rest = rest
 
 -- the one row of a function, where it is not kept
@@ -270,30 +270,30 @@ root-dropped n at rows x dropped rises were is row there =
         by false = refl
 
 -- the values of rows
-pub row-values : (rows : List RootRow) → map (λ (r : RootRow). r.value.0) rows ≡ map (λ (r : FunctionRoot). r.value) (map root_of_row rows)
+pub row-values : (rows : List RootRow) → map (λ (r : RootRow). r.value.0) rows ≡ map (λ (r : TsfnRoot). r.value) (map root_of_row rows)
 row-values [] = refl
 row-values (r ∷ rs) = ap (λ l. r.value.0 ∷ l) (row-values rs)
 
 -- WHAT THE MACHINE SEES
 -- where values stay live under their numbers, so do those of the roots
-pub roots-live : (s t : StoreState) (roots : List FunctionRoot) → KeepsValues s t → RootsAreLive s roots → RootsAreLive t roots
+pub roots-live : (s t : StoreState) (roots : List TsfnRoot) → KeepsValues s t → RootsAreLive s roots → RootsAreLive t roots
 roots-live s t roots kept live =
-    All-weaker (λ (r : FunctionRoot). IsLive s r.value) (λ r. IsLive t r.value) (λ r h. kept.live r.value h) roots live
+    All-weaker (λ (r : TsfnRoot). IsLive s r.value) (λ r. IsLive t r.value) (λ r h. kept.live r.value h) roots live
 
-pub roots-kept : (s t : StoreState) (roots : List FunctionRoot) → KeepsValues s t → RootsAreLive s roots → function_roots_seen t roots ≡ function_roots_seen s roots
+pub roots-kept : (s t : StoreState) (roots : List TsfnRoot) → KeepsValues s t → RootsAreLive s roots → tsfn_roots_seen t roots ≡ tsfn_roots_seen s roots
 roots-kept s t [] kept live = refl
 roots-kept s t (r ∷ rs) kept live =
-    let L : FunctionRoot → Type 0 = λ q. IsLive s q.value in
+    let L : TsfnRoot → Type 0 = λ q. IsLive s q.value in
     let first : root_seen t r ≡ root_seen s r = ap (λ v. record r { value = v }) (kept.numbers r.value (All-head L r rs live)) in
     ap (λ q. q ∷ map (root_seen t) rs) first ∙ ap (λ l. root_seen s r ∷ l) (roots-kept s t rs kept (All-tail L r rs live))
 
 -- fewer roots
-pub seen-dropped : (s : StoreState) (n : ℕ) (roots : List FunctionRoot)
-    → function_roots_seen s (filter (is_of_another n) roots) ≡ filter (is_of_another n) (function_roots_seen s roots)
+pub seen-dropped : (s : StoreState) (n : ℕ) (roots : List TsfnRoot)
+    → tsfn_roots_seen s (filter (is_of_another n) roots) ≡ filter (is_of_another n) (tsfn_roots_seen s roots)
 seen-dropped s n roots = map-filter (root_seen s) (is_of_another n) (is_of_another n) (λ r. refl) roots
 
 -- the values of the roots, as they are seen
-pub values-seen : (s : StoreState) (roots : List FunctionRoot)
-    → map (λ (r : FunctionRoot). r.value) (function_roots_seen s roots) ≡ map (number_in s) (map (λ (r : FunctionRoot). r.value) roots)
+pub values-seen : (s : StoreState) (roots : List TsfnRoot)
+    → map (λ (r : TsfnRoot). r.value) (tsfn_roots_seen s roots) ≡ map (number_in s) (map (λ (r : TsfnRoot). r.value) roots)
 values-seen s [] = refl
 values-seen s (r ∷ rs) = ap (λ l. number_in s r.value ∷ l) (values-seen s rs)
