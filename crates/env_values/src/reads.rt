@@ -15,7 +15,7 @@ use napi_types::{Call, HandleId, Out, TextNo};
 use value_store::Store;
 
 /// The calls that tell what one value is: `typeof`, `is_array`, `is_error` and `get_value_*`. `value` is the one handle that the call names.
-pub(crate) fn tell(
+pub(crate) fn answer_about(
     store: &Store,
     scopes: &Scopes,
     call: &Call,

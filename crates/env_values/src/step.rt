@@ -15,7 +15,9 @@ use crate::errors::create_error;
 use crate::makes::{create_function, give_new, give_starting};
 use crate::names::get_property_names;
 use crate::properties::{delete_property, set_element, set_named_property};
-use crate::reads::{get_array_length, has_element, has_named_property, strict_equals, tell};
+use crate::reads::{
+    answer_about, get_array_length, has_element, has_named_property, strict_equals,
+};
 use crate::stop::Stop;
 use crate::values::{
     create_int64, create_string_utf8, create_symbol, get_element, get_named_property,
@@ -104,7 +106,7 @@ fn outcome(
         | Call::GetValueBigintInt64(value)
         | Call::GetValueBool(value)
         | Call::GetValueStringUtf8(value)
-        | Call::GetValueExternal(value) => tell(store, scopes, call, value),
+        | Call::GetValueExternal(value) => answer_about(store, scopes, call, value),
         Call::GetArrayLength(value) => get_array_length(store, scopes, value),
         Call::StrictEquals(left, right) => strict_equals(store, scopes, left, right),
         Call::SetNamedProperty(object, name, value) => {

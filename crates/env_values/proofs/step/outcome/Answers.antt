@@ -40,4 +40,4 @@ returns-in-GetPropertyNames-clause-comes c =
     comes-of c.args.texts c.args.addon before _ (call.GetPropertyNames c.in-GetPropertyNames.object) c.get_property_names.result (heap_of c.get_property_names.new.store c.get_property_names.new.scopes) c.in-GetPropertyNames.is refl (c.get_property_names.ensures.comes c.args.texts)
 
 pub returns-in-Typeof-clause-comes : goal.returns-in-Typeof-clause-comes
-returns-in-Typeof-clause-comes c = c.tell.ensures.comes c.args.texts c.args.addon
+returns-in-Typeof-clause-comes c = c.answer_about.ensures.comes c.args.texts c.args.addon
