@@ -44,12 +44,12 @@ found-pushed texts text other number count none same found = rw (same, found) (s
 pub put-found : (texts reserved new : List (List ℕ)) (text name copied other : List ℕ) (count : ℕ) (number : List ℕ → Option ℕ) (now : Option ℕ)
     → place_of texts text ≡ None → ((o : List ℕ) → number o ≡ place_of texts o) → count ≡ length texts → name ≡ text → copied ≡ text → reserved ≡ texts
     → new ≡ reserved ++ copied ∷ [] → now ≡ update bytes_eq number name (Some count) other → now ≡ place_of new other
-put-found texts reserved new text name copied other count number now none found same named copy room grown told =
+put-found texts reserved new text name copied other count number now none found same named copy room grown refusal_of =
     let grown_by : new ≡ texts ++ text ∷ [] = grown ∙ rw (room, copy) refl in
     let count_is : count ≡ 0 + length texts = omega (arith, same) in
     let P : List (List ℕ) → Type 0 = λ x. now ≡ place_of x other in
     let N : List ℕ → Type 0 = λ x. now ≡ update bytes_eq number x (Some count) other in
-    subst P (sym grown_by) (subst N named told ∙ found-pushed texts text other number count none count_is (found other))
+    subst P (sym grown_by) (subst N named refusal_of ∙ found-pushed texts text other number count none count_is (found other))
 
 -- what stands in a table that got one more
 pushed-get : (texts : List (List ℕ)) (text other : List ℕ) (i : ℕ) → slice_get (texts ++ text ∷ []) i ≡ Some other

@@ -51,7 +51,7 @@ fn read(alloc: Global, bytes: &[u8]) -> Result<Script, ReadingStop>
 }
 
 /// The refusal that tells why reading stopped.
-fn told(alloc: Global, stop: ReadingStop) -> Refusal
+fn refusal_of(alloc: Global, stop: ReadingStop) -> Refusal
     ensures json { result ≡ Refusal.NotJson → stop ≡ ReadingStop.NotJson }
     ensures shape { (text : List ℕ) → result ≡ Refusal.Shape text → (p : Place) × (text ≡ path_of p) × (stop ≡ ReadingStop.Wrong (wrong.Shape p)) }
     ensures limit { (which : LimitName) → result ≡ Refusal.Limit which → stop ≡ ReadingStop.Wrong (wrong.Limit which) }
@@ -81,6 +81,6 @@ pub fn read_script(alloc: Global, bytes: &[u8]) -> Result<Script, Refusal>
 {
     match read(alloc, bytes) {
         Ok(script) => Ok(script),
-        Err(stop) => Err(told(alloc, stop)),
+        Err(stop) => Err(refusal_of(alloc, stop)),
     }
 }
