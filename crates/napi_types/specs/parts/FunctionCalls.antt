@@ -16,7 +16,7 @@ use Rattle.napi_types.specs.parts.Bodies.{function_addon, function_entry, functi
 use Rattle.napi_types.specs.parts.Frames.{Frame, frame_of}
 use Rattle.napi_types.specs.parts.Heap.{Heap, handle_value, handle_body}
 use Rattle.napi_types.specs.parts.HeapChanges.{new_value, with_handle}
-use Rattle.napi_types.specs.parts.HeapGroup.{HeapGroup, untold_in_heap}
+use Rattle.napi_types.specs.parts.HeapGroup.{HeapGroup, no_heap_group}
 use Rattle.napi_types.specs.parts.Kinds.{expects_if}
 use Rattle.napi_types.specs.parts.Values.{undefined_value}
 
@@ -60,4 +60,4 @@ function_refusal heap _ = None
 
 -- what the heap tells of the calls that make a function, call one, or make a thread-safe function. `on_functions` asks which addon calls, so it is not here
 abbrev pub functions_in_heap : HeapGroup
-functions_in_heap = record untold_in_heap { refuses = function_refusal }
+functions_in_heap = record no_heap_group { refuses = function_refusal }

@@ -4,7 +4,7 @@ use Rattle.napi_types.specs.declared.call.CallGroup.{CallGroup}
 use Rattle.napi_types.specs.declared.call.CallGroup.TheVariants.{OnValues, OnProperties, OnFunctions, OnScopes, OnWraps, OnEntering, OnTsfns, OnVersion}
 use Rattle.napi_types.specs.plain.CallFacts.{group_of}
 use Rattle.napi_types.specs.parts.FunctionCalls.{functions_in_heap}
-use Rattle.napi_types.specs.parts.HeapGroup.{HeapGroup, untold_in_heap}
+use Rattle.napi_types.specs.parts.HeapGroup.{HeapGroup, no_heap_group}
 use Rattle.napi_types.specs.parts.PropertyCalls.{properties_in_heap}
 use Rattle.napi_types.specs.parts.ScopeCalls.{scopes_in_heap}
 use Rattle.napi_types.specs.parts.ValueCalls.{values_in_heap}
@@ -21,7 +21,7 @@ heap_group OnWraps = wraps_in_heap
 heap_group OnEntering = functions_in_heap
 heap_group OnTsfns = functions_in_heap
 heap_group OnVersion = version_in_heap
-heap_group _ = untold_in_heap
+heap_group _ = no_heap_group
 
 -- what it tells of the group of a call
 abbrev pub heap_group_of : Call → HeapGroup

@@ -10,7 +10,7 @@ use Rattle.napi_types.specs.plain.Lists.{with_number}
 use Rattle.napi_types.specs.plain.Replies.{Answer, accepts}
 use Rattle.napi_types.specs.parts.Heap.{Heap, handle_value}
 use Rattle.napi_types.specs.parts.HeapChanges.{in_scopes}
-use Rattle.napi_types.specs.parts.HeapGroup.{HeapGroup, untold_in_heap}
+use Rattle.napi_types.specs.parts.HeapGroup.{HeapGroup, no_heap_group}
 use Rattle.napi_types.specs.parts.ScopeChanges.{open_in, close_in, escape_in}
 use Rattle.napi_types.specs.parts.ScopeRefusals.{closing, escaping}
 use Rattle.napi_types.specs.parts.Scopes.{opened_scopes}
@@ -43,4 +43,4 @@ scope_refusal heap _ = None
 
 -- what the heap tells of these calls, which is all
 abbrev pub scopes_in_heap : HeapGroup
-scopes_in_heap = record untold_in_heap { refuses = scope_refusal; answers = on_scopes }
+scopes_in_heap = record no_heap_group { refuses = scope_refusal; answers = on_scopes }

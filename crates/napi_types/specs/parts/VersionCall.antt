@@ -6,7 +6,7 @@ use Rattle.napi_types.specs.declared.entry.Out.TheVariants as out
 use Rattle.napi_types.specs.plain.Numbers.{highest_version}
 use Rattle.napi_types.specs.plain.Replies.{Answer, accepts}
 use Rattle.napi_types.specs.parts.Heap.{Heap}
-use Rattle.napi_types.specs.parts.HeapGroup.{HeapGroup, untold_in_heap}
+use Rattle.napi_types.specs.parts.HeapGroup.{HeapGroup, no_heap_group}
 
 -- `get_version` tells the highest version, whatever the script asked for
 abbrev pub on_version : Heap → Call → Option (Answer Heap)
@@ -15,4 +15,4 @@ on_version heap _ = None
 
 -- what the heap tells of this call, which is all
 abbrev pub version_in_heap : HeapGroup
-version_in_heap = record untold_in_heap { answers = λ heap c n. on_version heap c }
+version_in_heap = record no_heap_group { answers = λ heap c n. on_version heap c }

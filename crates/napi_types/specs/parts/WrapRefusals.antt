@@ -7,7 +7,7 @@ use Rattle.napi_types.specs.declared.status.Status.TheVariants as status
 use Rattle.napi_types.specs.plain.Lists.{when}
 use Rattle.napi_types.specs.parts.Bodies.{is_object_like, is_taggable}
 use Rattle.napi_types.specs.parts.Heap.{Heap}
-use Rattle.napi_types.specs.parts.HeapGroup.{HeapGroup, untold_in_heap}
+use Rattle.napi_types.specs.parts.HeapGroup.{HeapGroup, no_heap_group}
 use Rattle.napi_types.specs.parts.Kinds.{expects}
 
 -- an object is wrapped, and what is tagged may be an external, too
@@ -27,4 +27,4 @@ wrap_refusal heap _ = None
 
 -- what the heap tells of these calls
 abbrev pub wraps_in_heap : HeapGroup
-wraps_in_heap = record untold_in_heap { expects = wrap_kinds; refuses = wrap_refusal }
+wraps_in_heap = record no_heap_group { expects = wrap_kinds; refuses = wrap_refusal }
