@@ -47,7 +47,7 @@ use Rattle.env_loop.specs.FollowedRuns.{Asks, IsRecordedRun, taken_in, HasNumber
 use Rattle.env_loop.specs.HubTurns.{IsHubTurn}
 use Rattle.env_loop.specs.Recording.{AddonStates, machine_of, HasSeen, IsOf, IsRecorded, RecordsOwn}
 use Rattle.env_loop.specs.RecordedRuns.{Run, IsSoundEnvironment, IsAwaited, IsOwedEnd, IsRunning, owes_hub, FitsHub}
-use Rattle.env_loop.specs.Turns.{IsTold, OnlyInnermostChanges, delivery_told, hub_event}
+use Rattle.env_loop.specs.Turns.{ReplyIsNoted, OnlyInnermostChanges, delivery_told, hub_event}
 use Rattle.env_loop.proofs.FrameTurns.{HasTopFrame, head-stands, stands-so}
 use Rattle.env_loop.proofs.HandedOver.{hands-owned}
 use Rattle.env_loop.proofs.HubGoing.{hub-is, IsRecordedAtHub, goes-at-hub}
@@ -64,7 +64,7 @@ module _ (s : Setting) (plans : List Plan) (core : Core) (hub : Hub) (history : 
     (c : SharedCall) (r : Reply)
     (of : IsOf s plans core) (sound : IsSoundEnvironment core.env) (w : IsAwaited core.env c) (next : IsHubNext hub (handed_entry c r))
     (fits : is_full (history_room hub (length history) s.limits.history) c.call ≡ false)
-    (told : IsTold plans all.registers core.env.frames r now.registers) (unseen : now.seen ≡ all.seen) where
+    (told : ReplyIsNoted plans all.registers core.env.frames r now.registers) (unseen : now.seen ≡ all.seen) where
   answered-recorded : Asks s all.registers core.env.frames (ask.Do c.call)
       → IsRecorded s core hub history all firsts
       → RecordsOwn s (after_answer c r (length history + 1) core) (hub_step hub (handed_entry c r)).after (history ++ one (handed_entry c r)) now firsts
@@ -92,7 +92,7 @@ answered-run : (s : Setting) (n : Numbers) (plans : List Plan) (old : Run) (c : 
     (firsts : List (List DueInfo))
     → IsLedHub n before → HasNumbers s n → IsOf s plans old.core → IsSoundEnvironment old.core.env → IsAwaited old.core.env c → old.core.awaited ≡ Some c
     → AddsEntry before (handed_entry c r) after → is_full (hub_room n before) c.call ≡ false
-    → IsTold plans all.registers old.core.env.frames r now.registers → now.seen ≡ all.seen
+    → ReplyIsNoted plans all.registers old.core.env.frames r now.registers → now.seen ≡ all.seen
     → IsRecordedRun s (taken_in before.history old) before.history all firsts
     → IsRecordedAtHub s (record { core = after_answer c r (length after.history) old.core; begun = old.begun; ending = None }) after.history now firsts
 answered-run s n plans old c r before after all now firsts led numbers of sound w awaited adds fits told unseen joined =
@@ -176,7 +176,7 @@ answered-fits run c r before after running w fits adds keeps =
 turn-answered : (n : Numbers) (plans : List Plan) (run : Run) (c : SharedCall) (r : Reply) (before after : HubSeen) (all now : AddonStates) → IsLedHub n before
     → IsRunning run.core run.begun run.ending → FitsHub run before → run.core.awaited ≡ Some c → AddsEntry before (handed_entry c r) after
     → KeepsStanding before.hub after.hub
-    → is_full (hub_room n before) c.call ≡ false → IsTold plans all.registers run.core.env.frames r now.registers → now.seen ≡ all.seen
+    → is_full (hub_room n before) c.call ≡ false → ReplyIsNoted plans all.registers run.core.env.frames r now.registers → now.seen ≡ all.seen
     → IsHubTurn n plans run before all (record { core = after_answer c r (length after.history) run.core; begun = run.begun; ending = None }) after now
 turn-answered n plans run c r before after all now led running fits awaited adds keeps room told unseen =
     let w : IsAwaited run.core.env c = awaited-stands run c running awaited in
@@ -210,8 +210,9 @@ had-room false r s stops = refl
 
 -- .. the innermost frame's addon was told the reply, ..
 pub told-innermost : (ps : List Plan) (all now : Registers) (fs : List Frame) (f : Frame) (r : Reply) → Some f ≡ head fs → OthersStay all now f.addon
-    → IfSome (plan_of ps f.addon) (λ p. registers_of now f.addon ≡ registers_after_reply p (registers_of all f.addon) f.entry f.asks r) → IsTold ps all fs r now
-told-innermost ps all now fs f r top others kept = subst (λ (gs : List Frame). IsTold ps all gs r now) (sym (head-stands fs f (sym top))) (others, kept)
+    → IfSome (plan_of ps f.addon) (λ p. registers_of now f.addon ≡ registers_after_reply p (registers_of all f.addon) f.entry f.asks r)
+    → ReplyIsNoted ps all fs r now
+told-innermost ps all now fs f r top others kept = subst (λ (gs : List Frame). ReplyIsNoted ps all gs r now) (sym (head-stands fs f (sym top))) (others, kept)
 
 -- .. and the turn was made
 pub answered-turn : (n : Numbers) (plans : List Plan) (run old : Run) (core : Core) (c : SharedCall) (r : Reply) (before after : HubSeen)
@@ -219,7 +220,7 @@ pub answered-turn : (n : Numbers) (plans : List Plan) (run old : Run) (core : Co
     → run ≡ old → IsRunning run.core run.begun run.ending → IsLedHub n before → FitsHub old before → old.core.awaited ≡ Some c
     → AddsEntry before (handed_entry c r) after → KeepsStanding before.hub after.hub → is_full (hub_room n before) c.call ≡ false
     → IfSome run.core.awaited (λ x. core ≡ after_answer x r position run.core) → position ≡ length after.history
-    → IsTold plans all.registers run.core.env.frames r now.registers → now.seen ≡ all.seen
+    → ReplyIsNoted plans all.registers run.core.env.frames r now.registers → now.seen ≡ all.seen
     → IsHubTurn n plans old before all (record { core = core; begun = run.begun; ending = run.ending }) after now
 answered-turn n plans run old core c r before after all now position view running led fits awaited adds keeps room settled noted told unseen =
     let here : run.core.awaited ≡ Some c = ap (λ (x : Run). x.core.awaited) view ∙ awaited in

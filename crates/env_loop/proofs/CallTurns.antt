@@ -40,7 +40,7 @@ use Rattle.env_loop.specs.declared.run.FrameEnd.{FrameEnd}
 use Rattle.env_loop.specs.FollowedRuns.{Asks}
 use Rattle.env_loop.specs.Recording.{AddonStates, machine_of, HasSeen, IsRecorded, Continues}
 use Rattle.env_loop.specs.RecordedRuns.{Run, IsSoundEnvironment, Holds, IsRunning}
-use Rattle.env_loop.specs.Turns.{IsTold, OnlyInnermostChanges, IsTurn, OwesMore}
+use Rattle.env_loop.specs.Turns.{ReplyIsNoted, OnlyInnermostChanges, IsTurn, OwesMore}
 use Rattle.env_loop.proofs.LocalGoing.{if_some-none, local-goes, stages-same}
 use Rattle.env_loop.proofs.MadeTurns.{running-idle, states-same, made-turn}
 use Rattle.env_loop.proofs.Recordings.{own-grown}
@@ -56,7 +56,7 @@ on-last old new c r e p = let Q : Option Reply → Type 0 = λ q. MatchOption q 
 
 call_change-goes : {ps : List Plan} {core : Core} {all : AddonStates} {f : Frame} {a : Ask} → InFrame ps core.env all.registers f a
     → (c : Call) (r : Reply) (new : Core) (now : AddonStates) → f.asks < most_asks
-    → ask.Do c ≡ a → is_shared c ≡ false → Replies core c r new → IsTold ps all.registers core.env.frames r now.registers → now.seen ≡ all.seen
+    → ask.Do c ≡ a → is_shared c ≡ false → Replies core c r new → ReplyIsNoted ps all.registers core.env.frames r now.registers → now.seen ≡ all.seen
     → Continues ps core all (after_change (call_change core.env c (number_of r.out)) core) now
 call_change-goes {ps} {core} {all} {f} {a} i c r new now below is local reply told same = λ s hub history firsts of own.
     let rec : IsRecorded s core hub history all firsts = own.recorded in
@@ -68,8 +68,8 @@ call_change-goes {ps} {core} {all} {f} {a} i c r new now below is local reply to
     let number : number_of o ≡ k = ap number_of (sym same_out) in
     let fresh_o : is_fresh_result core.env o ≡ true = ap (is_fresh_result core.env) (sym same_out) ∙ reply.fresh in
     let room : is_full (room_of m c) c ≡ false = ap (λ x. is_full x c) (sym (same-room s core hub history c local rec.limit)) ∙ reply.fits in
-    let told_here : IsTold ps all.registers core.env.frames change.entry.reply now.registers =
-    subst (λ (x : Reply). IsTold ps all.registers core.env.frames x now.registers) reply.answer told in
+    let told_here : ReplyIsNoted ps all.registers core.env.frames change.entry.reply now.registers =
+    subst (λ (x : Reply). ReplyIsNoted ps all.registers core.env.frames x now.registers) reply.answer told in
     let tells : TellsNoFrame o = reply-tells core.env c k in
     let next : Kept s.plans now.registers (caller_after_reply s.plans rec.own core.env.frames change.entry.reply) =
     registers_after_reply-in s ps core hub history all firsts now.registers core.env.frames change.entry.reply of rec i.sound.owned.frames told_here in
@@ -109,8 +109,8 @@ pub replied-turn : {ps : List Plan} {old : Run} {all : AddonStates} {f : Frame} 
 replied-turn {ps} {old} {all} {f} {a} i c r new now idle unended below is local reply others keeps same =
     let e = old.core.env in
     let k : ℕ = number_of r.out in
-    let told : IsTold ps all.registers e.frames r now.registers =
-    subst (λ (l : List Frame). IsTold ps all.registers l r now.registers) (sym (in-stands i)) (others, keeps) in
+    let told : ReplyIsNoted ps all.registers e.frames r now.registers =
+    subst (λ (l : List Frame). ReplyIsNoted ps all.registers l r now.registers) (sym (in-stands i)) (others, keeps) in
     let U : List Frame → Type 0 = λ l. OnlyInnermostChanges e.frames (ask_counted l) all.registers now.registers in
     asked-turn i c k (call_change e c k) new now idle unended (asked_change-call_change e c k reply.at_once) reply.after
     (told-others e.addons ps all.registers now.registers e.frames r i.sound.owned.frames told)

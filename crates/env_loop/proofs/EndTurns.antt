@@ -45,7 +45,7 @@ use Rattle.env_loop.specs.declared.turn.LocalTurn.TheVariants as turn
 use Rattle.env_loop.specs.FollowedRuns.{Asks, StoppedAtHub, MayEndSo, IsRecordedRun}
 use Rattle.env_loop.specs.Recording.{AddonStates, machine_of, HasSeen, IsOf, IsRecorded, RecordsOwn}
 use Rattle.env_loop.specs.RecordedRuns.{Run, IsSoundEnvironment, Holds, IsRunning, cut_at}
-use Rattle.env_loop.specs.Turns.{IsTold, OnlyInnermostChanges, IsTurn, OwesMore, MatchTurn, turn_after, EndsHere, EndsOrOwes}
+use Rattle.env_loop.specs.Turns.{ReplyIsNoted, OnlyInnermostChanges, IsTurn, OwesMore, MatchTurn, turn_after, EndsHere, EndsOrOwes}
 use Rattle.env_loop.proofs.LocalGoing.{if_some-none, stages-same}
 use Rattle.env_loop.proofs.MadeTurns.{none-there, running-idle, states-same, turn-made, turn-owes, made-turn}
 use Rattle.env_loop.proofs.Recordings.{local-grown}
@@ -60,11 +60,11 @@ callers_of e = at_last_ask (tail e.frames)
 
 -- its addon is told how the innermost frame ended
 abbrev pub IsToldEnd : List Plan → Registers → Environment → Option HandleId → Option Why → Registers → Type 0
-IsToldEnd ps all e v cut now = IsTold ps all (callers_of e) (end_change v cut e).entry.reply now
+IsToldEnd ps all e v cut now = ReplyIsNoted ps all (callers_of e) (end_change v cut e).entry.reply now
 
 -- WHY IT MAY END
--- the innermost frame may end so: it asks to leave this, where no end was owed, or it may be cut at what it asks, and leaves nothing. Where an end was owed the hub
--- had stopped it
+-- the innermost frame may end so: it asks to leave this, where no end was owed, or it may be cut at what it asks, and leaves nothing. Where an end was owed the
+-- hub had stopped it
 abbrev pub MayEndAs : Setting → Registers → Machine → Option FrameEnd → Option HandleId → FrameEnd → Type 0
 MayEndAs s rss m owed v end.Leaves = Asks s rss m.env.frames (ask.Leave v) × (may_ask m.env ≡ true) × (owed ≡ None)
 MayEndAs s rss m owed v (end.Cut w) = (v ≡ None) × (a : Ask) × Asks s rss m.env.frames a × (may_cut m a w ≡ true) × (owed ≢ None → StoppedAtHub a w)
@@ -314,10 +314,10 @@ caller-there core new v cut f sound made top =
 pub told-caller : (ps : List Plan) (all now : Registers) (core new : Core) (v : Option HandleId) (cut : Option Why) (f : Frame) (n : ℕ) (r : Reply)
     → new ≡ after_change (end_change v cut core.env) core → Some f ≡ head new.env.frames → n ≡ f.asks - 1 → r ≡ (end_change v cut core.env).entry.reply
     → OthersStay all now f.addon → IfSome (plan_of ps f.addon) (λ p. registers_of now f.addon ≡ registers_after_reply p (registers_of all f.addon) f.entry n r)
-    → IsTold ps all (at_last_ask (tail core.env.frames)) (end_change v cut core.env).entry.reply now
+    → ReplyIsNoted ps all (at_last_ask (tail core.env.frames)) (end_change v cut core.env).entry.reply now
 told-caller ps all now core new v cut f n r made top counted answer others keeps =
     let callers : tail core.env.frames ≡ f ∷ tail new.env.frames = sym (frames-left core new v cut made) ∙ head-stands new.env.frames f (sym top) in
-    let P : List Frame → Type 0 = λ l. IsTold ps all (at_last_ask l) (end_change v cut core.env).entry.reply now in
+    let P : List Frame → Type 0 = λ l. ReplyIsNoted ps all (at_last_ask l) (end_change v cut core.env).entry.reply now in
     let K : ℕ → Reply → Type 0 = λ k x.
     IfSome (plan_of ps f.addon) (λ p. registers_of now f.addon ≡ registers_after_reply p (registers_of all f.addon) f.entry k x) in
     subst P (sym callers) (others, subst (λ (x : Reply). K (f.asks - 1) x) answer (subst (λ (k : ℕ). K k r) counted keeps))

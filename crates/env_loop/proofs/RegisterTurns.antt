@@ -21,7 +21,7 @@ use Rattle.env_core.specs.Core.{Core}
 use Rattle.env_loop.specs.Recording.{AddonStates, IsOf, AgreesWhereTold, AgreesWith, IsRecorded}
 use Rattle.env_loop.specs.FollowedRuns.{Asks}
 use Rattle.env_loop.specs.RecordedRuns.{IsSoundEnvironment}
-use Rattle.env_loop.specs.Turns.{IsAskIn, IsTold, OnlyGiven, OnlyInnermostChanges}
+use Rattle.env_loop.specs.Turns.{IsAskIn, ReplyIsNoted, OnlyGiven, OnlyInnermostChanges}
 use Rattle.env_loop.proofs.FrameTurns.{InFrame, in-stands, in-there}
 
 -- WHAT IS ASKED, AND WHAT IS KEPT
@@ -83,7 +83,7 @@ pub record Kept (ps : List Plan) (now : Registers) (own : Registers) : Type 0 wh
 
 told-registers_after_reply : (ps plans : List Plan) (all own now : Registers) (fs : List Frame) (r : Reply) → All (λ f. f.addon < length ps) fs
     → ((addon : ℕ) → addon < length ps → plan_of ps addon ≡ plan_of plans addon) → length own ≡ length ps → AgreesWith ps all own
-    → IsTold plans all fs r now → Kept ps now (caller_after_reply ps own fs r)
+    → ReplyIsNoted plans all fs r now → Kept ps now (caller_after_reply ps own fs r)
 told-registers_after_reply ps plans all own now [] r there first count agrees told =
     let P : Registers → Type 0 = λ x. AgreesWith ps x own in
     record { count = count; agrees = subst P (sym told) agrees }
@@ -99,18 +99,18 @@ told-registers_after_reply ps plans all own now (f ∷ fs) r there first count a
     }
 
 -- the addons that are no addons of the script keep their registers
-pub told-others : (n : ℕ) (plans : List Plan) (all now : Registers) (fs : List Frame) (r : Reply) → All (λ f. f.addon < n) fs → IsTold plans all fs r now
+pub told-others : (n : ℕ) (plans : List Plan) (all now : Registers) (fs : List Frame) (r : Reply) → All (λ f. f.addon < n) fs → ReplyIsNoted plans all fs r now
     → drop n now ≡ drop n all
 told-others n plans all now [] r there told = ap (drop n) told
 told-others n plans all now (f ∷ fs) r there told =
     ap (drop n) told.0 ∙ drop-set-lt n all f.addon (registers_of now f.addon) (All-head (λ (x : Frame). x.addon < n) f fs there)
 
 -- the same where the registers and the plans are those of before
-pub told-from : (ps qs : List Plan) (all mid now : Registers) (fs : List Frame) (r : Reply) → qs ≡ ps → mid ≡ all → IsTold qs mid fs r now
-    → IsTold ps all fs r now
+pub told-from : (ps qs : List Plan) (all mid now : Registers) (fs : List Frame) (r : Reply) → qs ≡ ps → mid ≡ all → ReplyIsNoted qs mid fs r now
+    → ReplyIsNoted ps all fs r now
 told-from ps qs all mid now fs r plans registers told =
-    let P : List Plan → Type 0 = λ x. IsTold x all fs r now in
-    let Q : Registers → Type 0 = λ x. IsTold qs x fs r now in
+    let P : List Plan → Type 0 = λ x. ReplyIsNoted x all fs r now in
+    let Q : Registers → Type 0 = λ x. ReplyIsNoted qs x fs r now in
     subst P plans (subst Q registers told)
 
 -- WHOSE REGISTERS CHANGE
@@ -131,14 +131,14 @@ begun-touched [] rest g d all now alone is others =
 begun-touched (f ∷ fs) rest g d all now alone is others = cc
 
 -- that of the frame that is told the reply to its ask, ..
-pub asking-touched : (ps : List Plan) (all now : Registers) (before fs : List Frame) (r : Reply) → before ≢ [] → IsTold ps all fs r now
+pub asking-touched : (ps : List Plan) (all now : Registers) (before fs : List Frame) (r : Reply) → before ≢ [] → ReplyIsNoted ps all fs r now
     → OnlyInnermostChanges before (ask_counted fs) all now
 asking-touched ps all now [] fs r some told = absurd (some refl)
 asking-touched ps all now (f ∷ before) [] r some told = told
 asking-touched ps all now (f ∷ before) (g ∷ gs) r some told = told.0
 
 -- .. of the caller, which is told how its call ended, ..
-pub caller-touched : (ps : List Plan) (all now : Registers) (before fs : List Frame) (r : Reply) → before ≢ [] → IsTold ps all (at_last_ask fs) r now
+pub caller-touched : (ps : List Plan) (all now : Registers) (before fs : List Frame) (r : Reply) → before ≢ [] → ReplyIsNoted ps all (at_last_ask fs) r now
     → OnlyInnermostChanges before fs all now
 caller-touched ps all now [] fs r some told = absurd (some refl)
 caller-touched ps all now (f ∷ before) [] r some told = told
@@ -209,7 +209,7 @@ asked-in {ps} {core} {all} {f} {a} i s hub history firsts of r = asks-of-run s o
 pub registers_after_reply-in : (s : Setting) (ps : List Plan) (core : Core) (hub : Hub) (history : List Entry) (all : AddonStates)
     (firsts : List (List DueInfo)) (now : Registers)
     (fs : List Frame) (r : Reply) → IsOf s ps core → (rec : IsRecorded s core hub history all firsts)
-    → All (λ f. f.addon < core.env.addons) fs → IsTold ps all.registers fs r now → Kept s.plans now (caller_after_reply s.plans rec.own fs r)
+    → All (λ f. f.addon < core.env.addons) fs → ReplyIsNoted ps all.registers fs r now → Kept s.plans now (caller_after_reply s.plans rec.own fs r)
 registers_after_reply-in s ps core hub history all firsts now fs r of rec there told =
     let below : All (λ f. f.addon < length s.plans) fs = subst (λ (n : ℕ). All (λ f. f.addon < n) fs) (sym of.count) there in
     told-registers_after_reply s.plans ps all.registers rec.own now fs r below of.first rec.count rec.agrees told

@@ -48,8 +48,8 @@ IsNextEvent next.Gone o = o ≡ Some IsGone
 IsNextEvent next.OfHub o = o ≡ None
 
 -- A LOCAL TURN
--- a turn makes an entry where a frame stands. Else the environment makes the event that it decides alone, but for the end of the loop, which stands in the history;
--- every other event is the hub's, until the environment is gone
+-- a turn makes an entry where a frame stands. Else the environment makes the event that it decides alone, but for the end of the loop, which stands in the
+-- history; every other event is the hub's, until the environment is gone
 abbrev pub event_turn : Option Event → Phase → LocalTurn
 event_turn (Some (EndsLoop why)) p = turn.NeedsHub
 event_turn (Some event) p = turn.Made
@@ -122,9 +122,9 @@ abbrev pub IsAskOf : List Plan → Registers → Frame → Ask → Type 0
 IsAskOf plans all f a = IsAskIn f.makes_asks plans all f a
 
 -- the registers once the addon of the innermost of these frames was told the reply to the ask that the frame made last
-abbrev pub IsTold : List Plan → Registers → List Frame → Reply → Registers → Type 0
-IsTold plans all [] r now = now ≡ all
-IsTold plans all (f ∷ fs) r now =
+abbrev pub ReplyIsNoted : List Plan → Registers → List Frame → Reply → Registers → Type 0
+ReplyIsNoted plans all [] r now = now ≡ all
+ReplyIsNoted plans all (f ∷ fs) r now =
     OthersStay all now f.addon × IfSome (plan_of plans f.addon) (λ p. registers_of now f.addon ≡ registers_after_reply p (registers_of all f.addon) f.entry f.asks r)
 
 -- a frame that begins where none stood changes its addon's registers, and no other's, where a duty began it; an init frame is given nothing
@@ -163,7 +163,8 @@ pub record IsTurn (plans : List Plan) (old : Run) (all : AddonStates) (new : Run
 abbrev pub OwesAlone : Run → Run → Type 0
 OwesAlone old new = new ≡ record old { core = record old.core { awaited = new.core.awaited }; ending = new.ending }
 
--- a turn after which something is owed to the hub, where no end was owed before: all but that is as before, and a run that was followed goes on over the same history
+-- a turn after which something is owed to the hub, where no end was owed before: all but that is as before, and a run that was followed goes on over the same
+-- history
 pub record OwesMore (plans : List Plan) (old : Run) (all : AddonStates) (new : Run) (now : AddonStates) : Type 0 where
   pub core : new.core ≡ record old.core { awaited = new.core.awaited }
   pub begun : new.begun ≡ old.begun
@@ -188,7 +189,7 @@ pub record EndsHere (plans : List Plan) (all : Registers) (old : Run) (value : O
   pub ended : new.core ≡ after_change (end_change value (cut_at how) old.core.env) old.core
   pub ending : new.ending ≡ None
   pub begun : hub_begun new.begun ≡ hub_begun old.begun
-  pub told : IsTold plans all (at_last_ask (tail old.core.env.frames)) (end_change value (cut_at how) old.core.env).entry.reply now
+  pub told : ReplyIsNoted plans all (at_last_ask (tail old.core.env.frames)) (end_change value (cut_at how) old.core.env).entry.reply now
 
 -- the innermost frame of an environment ended so, without a value
 abbrev pub EndsSo : FrameEnd → Core → Core → Type 0

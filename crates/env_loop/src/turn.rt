@@ -11,7 +11,7 @@ ghost use Rattle.env_core.specs.Core.{after_change};
 ghost use Rattle.env_core.specs.Standing.{machine_frame};
 ghost use Rattle.env_loop.specs.Recording.{why_stopped, states_of};
 ghost use Rattle.env_loop.specs.RecordedRuns.{IsSoundEnvironment, cut_at, hub_begun, owes_hub, OneMore, FitsHub};
-ghost use Rattle.env_loop.specs.Turns.{event_turn as turn_at_event, turn_after, begins_next, IsNextEvent, IsAskOf, IsTold, IsTurn, MatchTurn, EndsOrOwes, EndsSo};
+ghost use Rattle.env_loop.specs.Turns.{event_turn as turn_at_event, turn_after, begins_next, IsNextEvent, IsAskOf, ReplyIsNoted, IsTurn, MatchTurn, EndsOrOwes, EndsSo};
 
 use crate::run::{EnvRun, FrameEnd};
 use addon_trait::{Addon, ask_at, begin_at, enter_at, note_at};
@@ -303,7 +303,7 @@ impl EnvRun {
         ensures told { let before = map (λ b. regs b) addons.old.items in
             let after = map (λ b. regs b) addons.new.items in
             let caller = at_last_ask (tail self.old.core.env.frames) in
-            IsTold (map (λ b. plan b) addons.old.items) before caller (end_change value cut self.old.core.env).entry.reply after }
+            ReplyIsNoted (map (λ b. plan b) addons.old.items) before caller (end_change value cut self.old.core.env).entry.reply after }
     {
         if duty.is_some() {
             let Some(standing) = self.begun.take() else {
