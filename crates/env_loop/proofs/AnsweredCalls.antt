@@ -47,7 +47,7 @@ use Rattle.env_loop.specs.FollowedRuns.{Asks, IsRecordedRun, taken_in, HasNumber
 use Rattle.env_loop.specs.HubTurns.{IsHubTurn}
 use Rattle.env_loop.specs.Recording.{AddonStates, machine_of, HasSeen, IsOf, IsRecorded, RecordsOwn}
 use Rattle.env_loop.specs.RecordedRuns.{Run, IsSoundEnvironment, IsAwaited, IsOwedEnd, IsRunning, owes_hub, FitsHub}
-use Rattle.env_loop.specs.Turns.{ReplyIsNoted, OnlyInnermostChanges, delivery_told, hub_event}
+use Rattle.env_loop.specs.Turns.{ReplyIsNoted, OnlyInnermostChanges, hub_duty_info_of, hub_event}
 use Rattle.env_loop.proofs.FrameTurns.{HasTopFrame, head-stands, stands-so}
 use Rattle.env_loop.proofs.HandedOver.{hands-owned}
 use Rattle.env_loop.proofs.HubGoing.{hub-is, IsRecordedAtHub, goes-at-hub}
@@ -192,7 +192,7 @@ turn-answered n plans run c r before after all now led running fits awaited adds
       others = told-others run.core.env.addons plans all.registers now.registers run.core.env.frames r running.sound.owned.frames told;
       untouched = subst (λ fs. OnlyInnermostChanges run.core.env.frames fs all.registers now.registers) (sym (answered-frames run.core.env c.call r))
           (asking-touched plans all.registers now.registers run.core.env.frames run.core.env.frames r w.stands told);
-      seen = subst (λ b. HasSeen all.seen (option_to_list (cond b None (delivery_told (hub_event run.core.env before.hub)))) now.seen) (sym owes)
+      seen = subst (λ b. HasSeen all.seen (option_to_list (cond b None (hub_duty_info_of (hub_event run.core.env before.hub)))) now.seen) (sym owes)
           (seen-same all.seen now.seen unseen);
       spent = λ final. inl (sym keeps.stage ∙ final);
       fitted = subst (λ o. IfSome o (λ (d : SharedCall). is_full (hub_room n before) d.call ≡ false)) (sym awaited) room;

@@ -36,7 +36,7 @@ use Rattle.env_loop.specs.HubTurns.{SpentAtFinals, IsHubTurn, MatchHubTurn}
 use Rattle.env_loop.specs.RecordedRuns.{Run, owes_hub, IsRunning, FitsHub}
 use Rattle.env_loop.specs.Recording.{AddonStates, machine_of, AgreesWith, HasSeen, IsOf, IsRecorded, RecordsOwn}
 use Rattle.env_loop.specs.SharedEntries.{shared_step}
-use Rattle.env_loop.specs.Turns.{event_turn, turn_at, turn_of, needs_hub, hub_event, delivery_told, begins_at_hub, OnlyInnermostChanges}
+use Rattle.env_loop.specs.Turns.{event_turn, turn_at, turn_of, needs_hub, hub_event, hub_duty_info_of, begins_at_hub, OnlyInnermostChanges}
 use Rattle.env_loop.specs.declared.run.FrameEnd.{FrameEnd}
 use Rattle.env_loop.specs.declared.run.HubTurn.{HubTurn}
 use Rattle.env_loop.specs.declared.run.HubTurn.TheVariants as hub_turn
@@ -145,7 +145,7 @@ pub record IsEvent (core : Core) (h : Hub) (v : Event) (x : Entry) (e : Environm
   pub tells : (l : Limits) (history : List Entry) → told_at (machine_of l core h history) x.reply.out ≡ told
   pub given : (l : Limits) (history : List Entry) (ps : List Plan) (rss : Registers)
       → after_event ps rss (machine_of l core h history) (ask.Leave None) x.reply x.what ≡ given_to rss told
-  pub begins : delivery_told (Some v) ≡ told
+  pub begins : hub_duty_info_of (Some v) ≡ told
   pub spent : x.what ≡ what.Host host.Finals → is_spent h ≡ true
 
 -- what the addons keep and see where the frame of this duty begins, or of none
@@ -222,7 +222,7 @@ module _ (n : Numbers) (old : Run) (before after : HubSeen) (all now : AddonStat
       → IsHubTurn n plans old before all (after_hub_event old e (length after.history) begun) after now
   event-turn plans addons fits untouched =
       let next : begins_at_hub old before.hub ≡ told =
-      ap (λ b. cond b None (delivery_told (hub_event old.core.env before.hub))) rest.unowed ∙ ap delivery_told event.next ∙ event.begins in
+      ap (λ b. cond b None (hub_duty_info_of (hub_event old.core.env before.hub))) rest.unowed ∙ ap hub_duty_info_of event.next ∙ event.begins in
       record {
         made = record { entry = x; by = event.by; adds = adds };
         answered = rest.awaited;

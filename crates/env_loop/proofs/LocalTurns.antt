@@ -19,7 +19,7 @@ use Rattle.env_loop.specs.declared.turn.LocalTurn.TheVariants as turn
 use Rattle.env_loop.specs.Recording.{AddonStates, HasSeen}
 use Rattle.env_loop.specs.RecordedRuns.{Run, IsSoundEnvironment, IsAwaited, IsOwedEnd, IsRunning, hub_begun, owes_hub, FitsHub, OneMore}
 use Rattle.env_loop.specs.FollowedRuns.{IsFollowed, RunGoesOn}
-use Rattle.env_loop.specs.Turns.{event_turn, turn_at, turn_after, begins_next, OnlyInnermostChanges, IsTurn, OwesAlone, OwesMore, IsSame, MatchTurn, EndsSo, EndsOrOwes}
+use Rattle.env_loop.specs.Turns.{event_turn, turn_at, turn_after, next_ticket_info, OnlyInnermostChanges, IsTurn, OwesAlone, OwesMore, IsSame, MatchTurn, EndsSo, EndsOrOwes}
 use Rattle.env_loop.proofs.CutTurns.{unowed-local}
 use Rattle.env_loop.proofs.LocalGoing.{stages-same, fits-local}
 use Rattle.env_loop.proofs.SeenLists.{begins-none, seen-stays}
@@ -36,9 +36,10 @@ pub owes-stands : (run : Run) → IsRunning run.core run.begun run.ending → ow
 owes-stands run runs owes = owed-stands run.core.env run.core.awaited run.ending _ runs.awaited runs.ends owes
 
 -- so no ticket begins
-pub owes-unbegun : (inside old : Run) → inside ≡ old → IsRunning inside.core inside.begun inside.ending → owes_hub old ≡ true → begins_next old.core.env ≡ None
+pub owes-unbegun : (inside old : Run) → inside ≡ old → IsRunning inside.core inside.begun inside.ending → owes_hub old ≡ true
+    → next_ticket_info old.core.env ≡ None
 owes-unbegun inside old same runs owes =
-    ap (λ (r : Run). begins_next r.core.env) (sym same) ∙ begins-none inside.core.env (owes-stands inside runs (ap owes_hub same ∙ owes))
+    ap (λ (r : Run). next_ticket_info r.core.env) (sym same) ∙ begins-none inside.core.env (owes-stands inside runs (ap owes_hub same ∙ owes))
 
 -- THE ROOM
 -- the journal of an environment that is not gone has a place left, since it owes the entry of its end
@@ -114,7 +115,7 @@ pub record TurnTells (t : LocalTurn) (ps : List Plan) (old : Run) (all : AddonSt
   pub others : drop old.core.env.addons now.registers ≡ drop old.core.env.addons all.registers
   pub addons : new.core.env.addons ≡ old.core.env.addons
   pub limit : new.core.limit ≡ old.core.limit
-  pub seen : HasSeen all.seen (option_to_list (begins_next old.core.env)) now.seen
+  pub seen : HasSeen all.seen (option_to_list (next_ticket_info old.core.env)) now.seen
   pub untouched : t ≡ turn.Made → OnlyInnermostChanges old.core.env.frames new.core.env.frames all.registers now.registers
 
 unowed-made : (o : Option SharedCall) (q : Option FrameEnd) (b : Bool) → o ≡ None → q ≡ None → (is_some o || (is_some q && b)) ≡ false
@@ -139,7 +140,7 @@ tells-made ps old new all now m =
       untouched = λ is. m.untouched;
     }
 
-module _ (t : LocalTurn) (ps : List Plan) (old new : Run) (all now : AddonStates) (unmade : t ≢ turn.Made) (none : begins_next old.core.env ≡ None) where
+module _ (t : LocalTurn) (ps : List Plan) (old new : Run) (all now : AddonStates) (unmade : t ≢ turn.Made) (none : next_ticket_info old.core.env ≡ None) where
   tells-owing : OwesMore ps old all new now → TurnTells t ps old all new now
   tells-owing o = record {
     made = λ is. absurd (unmade is);
@@ -181,7 +182,7 @@ module _ (t : LocalTurn) (ps : List Plan) (old new : Run) (all now : AddonStates
       }
 
 pub turn-tells : (t : LocalTurn) (ps : List Plan) (old new : Run) (all now : AddonStates) → MatchTurn t ps old all new now
-    → (t ≢ turn.Made → begins_next old.core.env ≡ None)
+    → (t ≢ turn.Made → next_ticket_info old.core.env ≡ None)
     → TurnTells t ps old all new now
 turn-tells turn.Made ps old new all now m unbegun = tells-made ps old new all now m
 turn-tells turn.NeedsHub ps old new all now m unbegun =

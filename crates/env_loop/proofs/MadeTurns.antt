@@ -14,7 +14,7 @@ use Rattle.env_loop.specs.declared.turn.LocalTurn.TheVariants as turn
 use Rattle.env_loop.specs.FollowedRuns.{RunGoesOn}
 use Rattle.env_loop.specs.Recording.{AddonStates, HasSeen}
 use Rattle.env_loop.specs.RecordedRuns.{Run, IsSoundEnvironment, Holds, IsRunning, hub_begun, owes_hub}
-use Rattle.env_loop.specs.Turns.{turn_of, turn_after, begins_next, OnlyInnermostChanges, IsTurn}
+use Rattle.env_loop.specs.Turns.{turn_of, turn_after, next_ticket_info, OnlyInnermostChanges, IsTurn}
 use Rattle.env_loop.proofs.LocalGoing.{if_some-none, KeepsStages, fits-local}
 
 -- what is not there is none
@@ -72,7 +72,7 @@ pub made-turn : (ps : List Plan) (old new : Run) (all now : AddonStates) (change
     → hub_begun new.begun ≡ hub_begun old.begun → change.after.addons ≡ old.core.env.addons → KeepsStages old.core.env.phase change.after.phase
     → drop old.core.env.addons now.registers ≡ drop old.core.env.addons all.registers
     → OnlyInnermostChanges old.core.env.frames change.after.frames all.registers now.registers
-    → HasSeen all.seen (option_to_list (begins_next old.core.env)) now.seen
+    → HasSeen all.seen (option_to_list (next_ticket_info old.core.env)) now.seen
     → ((history : List Entry) → RunGoesOn ps old history all new history now)
     → IsTurn ps old all new now
 made-turn ps old new all now change made idle unended begun addons stages others untouched seen goes =

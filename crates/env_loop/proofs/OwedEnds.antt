@@ -46,7 +46,7 @@ use Rattle.env_loop.specs.HubTurns.{IsHubTurn}
 use Rattle.env_loop.specs.Recording.{AddonStates, machine_of, HasSeen, IsOf, IsRecorded, RecordsOwn}
 use Rattle.env_loop.specs.RecordedRuns.{Run, IsSoundEnvironment, IsRunning, cut_at, owes_hub, FitsHub}
 use Rattle.env_loop.specs.SharedEntries.{shared_step}
-use Rattle.env_loop.specs.Turns.{OnlyInnermostChanges, delivery_told, hub_event}
+use Rattle.env_loop.specs.Turns.{OnlyInnermostChanges, hub_duty_info_of, hub_event}
 use Rattle.env_loop.proofs.FrameTurns.{HasTopFrame, stands-so, sound-ended}
 use Rattle.env_loop.proofs.SharedReplies.{taken-step}
 use Rattle.env_loop.proofs.HubGoing.{hub-is, IsRecordedAtHub, goes-at-hub}
@@ -226,7 +226,7 @@ turn-ended n plans run how before after all led sound f fits idle owed adds keep
       others = refl;
       untouched = subst (λ fs. OnlyInnermostChanges run.core.env.frames fs all.registers all.registers) (sym f.alone)
           (none-left run.core.env.frames all.registers);
-      seen = subst (λ b. HasSeen all.seen (option_to_list (cond b None (delivery_told (hub_event run.core.env before.hub)))) all.seen) (sym owes)
+      seen = subst (λ b. HasSeen all.seen (option_to_list (cond b None (hub_duty_info_of (hub_event run.core.env before.hub)))) all.seen) (sym owes)
           (seen-same all.seen all.seen refl);
       spent = λ final. inl (sym keeps.stage ∙ final);
       fitted = if_some-none _ idle;

@@ -12,27 +12,28 @@ use Rattle.napi_types.specs.runs.Loop.{Event}
 use Rattle.napi_types.proofs.runs.Runs.{of_addon-append}
 use Rattle.addon_trait.specs.Addons.{seen_of}
 use Rattle.env_loop.specs.Recording.{HasSeen}
-use Rattle.env_loop.specs.Turns.{due_told, begins_over, begins_next}
+use Rattle.env_loop.specs.Turns.{ticket_info_of, ticket_info_at, next_ticket_info}
 
 -- WHAT BEGINS
 -- no ticket begins while a frame stands, ..
-begins-over-none : (e : Environment) (fs : List Frame) → fs ≢ [] → begins_over e fs ≡ None
+begins-over-none : (e : Environment) (fs : List Frame) → fs ≢ [] → ticket_info_at e fs ≡ None
 begins-over-none e [] some = absurd (some refl)
 begins-over-none e (f ∷ fs) some = refl
 
-pub begins-none : (e : Environment) → e.frames ≢ [] → begins_next e ≡ None
+pub begins-none : (e : Environment) → e.frames ≢ [] → next_ticket_info e ≡ None
 begins-none e some = begins-over-none e e.frames some
 
 -- .. and else the one that is the event that the environment decides, where it is a ticket
-pub begins-chosen : (e : Environment) (o : Option Event) → e.frames ≡ [] → local_choice e ≡ o → begins_next e ≡ due_told e o
-begins-chosen e o alone chosen = ap (begins_over e) alone ∙ ap (due_told e) chosen
+pub begins-chosen : (e : Environment) (o : Option Event) → e.frames ≡ [] → local_choice e ≡ o → next_ticket_info e ≡ ticket_info_of e o
+begins-chosen e o alone chosen = ap (ticket_info_at e) alone ∙ ap (ticket_info_of e) chosen
 
 -- WHAT IS SEEN
 pub seen-same : (all now : List (List DueInfo)) → now ≡ all → HasSeen all [] now
 seen-same all now same = λ addon. ap (λ l. seen_of l addon) same ∙ sym (append-nil (seen_of all addon))
 
 -- where no ticket begins what was seen stays
-pub seen-stays : (e : Environment) (all now : List (List DueInfo)) → begins_next e ≡ None → now ≡ all → HasSeen all (option_to_list (begins_next e)) now
+pub seen-stays : (e : Environment) (all now : List (List DueInfo)) → next_ticket_info e ≡ None → now ≡ all
+    → HasSeen all (option_to_list (next_ticket_info e)) now
 seen-stays e all now none same = let P : Option DueInfo → Type 0 = λ d. HasSeen all (option_to_list d) now in subst P (sym none) (seen-same all now same)
 
 pub seen-more : (firsts all now : List (List DueInfo)) (begun more : List DueInfo) → HasSeen firsts begun all → HasSeen all more now

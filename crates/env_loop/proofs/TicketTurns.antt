@@ -36,7 +36,7 @@ use Rattle.env_loop.specs.declared.run.FrameEnd.{FrameEnd}
 use Rattle.env_loop.specs.declared.turn.NextEvent.TheVariants as next
 use Rattle.env_loop.specs.Recording.{AddonStates, HasSeen, machine_of, IsRecorded, RecordsOwn, Continues}
 use Rattle.env_loop.specs.RecordedRuns.{Run, IsSoundEnvironment, Holds, IsRunning, hub_begun}
-use Rattle.env_loop.specs.Turns.{begins_next, IsNextEvent, IsTurn}
+use Rattle.env_loop.specs.Turns.{next_ticket_info, IsNextEvent, IsTurn}
 use Rattle.env_loop.proofs.LocalGoing.{local-goes}
 use Rattle.env_loop.proofs.MadeTurns.{made-turn, running-idle}
 use Rattle.env_loop.proofs.Recordings.{own-grown}
@@ -166,7 +166,7 @@ ticket-turn ps all now old new mid due idle event b enough as_many given seen ma
     let inside : due.addon < length all.registers = omega (arith, there, enough) in
     let within : due.addon < length all.seen = omega (arith, there, as_many) in
     let chosen_is : local_choice core.env ≡ Some (Tickets n) = same-ticket core.env event.0 n event.1 b.next in
-    let told : begins_next core.env ≡ Some due =
+    let told : next_ticket_info core.env ≡ Some due =
     begins-chosen core.env (Some (Tickets n)) idle.alone chosen_is ∙ ap (option_map (due_info n)) b.registered ∙ ap (λ (x : DueInfo). Some x) (sym b.told) in
     let saw : HasSeen all.seen (due ∷ []) now.seen = seen-begun all.seen now.seen due within seen in
     let P : Option DueInfo → Type 0 = λ o. HasSeen all.seen (option_to_list o) now.seen in

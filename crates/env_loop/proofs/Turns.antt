@@ -22,7 +22,7 @@ use Rattle.env_core.specs.Core.{Core, after_change}
 use Rattle.env_loop.specs.declared.run.FrameEnd.{FrameEnd}
 use Rattle.env_loop.specs.Recording.{AddonStates, Continues}
 use Rattle.env_loop.specs.RecordedRuns.{Run, IsSoundEnvironment, IsOwedEnd, Holds, IsRunning, hub_begun, owes_hub}
-use Rattle.env_loop.specs.Turns.{due_told, IsTurn}
+use Rattle.env_loop.specs.Turns.{ticket_info_of, IsTurn}
 use Rattle.env_loop.proofs.LocalGoing.{local-goes, KeepsStages, stages-same}
 use Rattle.env_loop.proofs.MadeTurns.{unowed-idle, made-turn}
 use Rattle.env_loop.proofs.RegisterTurns.{none-touched}
@@ -131,7 +131,7 @@ next-gone-is e is = gone-in e e.phase refl is
 -- ITS TURN
 -- a turn that writes down a change which begins no duty's frame
 module _ (ps : List Plan) (old : Run) (all : AddonStates) (idle : IsIdleRun old.core old.begun old.ending) where
-  alone-turn : (new : Run) (change : Change) (o : Option Event) → local_choice old.core.env ≡ o → due_told old.core.env o ≡ None
+  alone-turn : (new : Run) (change : Change) (o : Option Event) → local_choice old.core.env ≡ o → ticket_info_of old.core.env o ≡ None
       → new ≡ record old { core = after_change change old.core }
       → duty_of change.after.frames ≡ None → change.after.addons ≡ old.core.env.addons → KeepsStages old.core.env.phase change.after.phase
       → Continues ps old.core all (after_change change old.core) all

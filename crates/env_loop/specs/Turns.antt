@@ -72,17 +72,17 @@ abbrev pub needs_hub : Run → Type 0
 needs_hub run = turn_after run run.core.env ≡ turn.NeedsHub
 
 -- what the ticket tells whose frame an event begins, where it begins one
-abbrev pub due_told : Environment → Option Event → Option DueInfo
-due_told e (Some (Tickets n)) = option_map (due_info n) (registration_at e.book n)
-due_told e _ = None
+abbrev pub ticket_info_of : Environment → Option Event → Option DueInfo
+ticket_info_of e (Some (Tickets n)) = option_map (due_info n) (registration_at e.book n)
+ticket_info_of e _ = None
 
 -- what the ticket tells that begins in the next turn, where one does: none begins while a frame stands
-abbrev pub begins_over : Environment → List Frame → Option DueInfo
-begins_over e [] = due_told e (local_choice e)
-begins_over e (f ∷ fs) = None
+abbrev pub ticket_info_at : Environment → List Frame → Option DueInfo
+ticket_info_at e [] = ticket_info_of e (local_choice e)
+ticket_info_at e (f ∷ fs) = None
 
-abbrev pub begins_next : Environment → Option DueInfo
-begins_next e = begins_over e e.frames
+abbrev pub next_ticket_info : Environment → Option DueInfo
+next_ticket_info e = ticket_info_at e e.frames
 
 -- A TURN AT THE HUB
 -- the event that is next at the hub, where nothing is owed: the end of the loop, once exit was asked, or else the one that the hub chooses
@@ -90,13 +90,13 @@ abbrev pub hub_event : Environment → Hub → Option Event
 hub_event e h = option_or (local_choice e) (hub_choice h (waiting_hooks e))
 
 -- what the duty tells whose frame an event of the hub begins, where it begins one
-abbrev pub delivery_told : Option Event → Option DueInfo
-delivery_told (Some (Moves (Delivers d))) = Some d
-delivery_told _ = None
+abbrev pub hub_duty_info_of : Option Event → Option DueInfo
+hub_duty_info_of (Some (Moves (Delivers d))) = Some d
+hub_duty_info_of _ = None
 
 -- what the duty tells whose frame begins in the hub's turn
 abbrev pub begins_at_hub : Run → Hub → Option DueInfo
-begins_at_hub run h = cond (owes_hub run) None (delivery_told (hub_event run.core.env h))
+begins_at_hub run h = cond (owes_hub run) None (hub_duty_info_of (hub_event run.core.env h))
 
 -- a fact of why a call was cut, where the turn is one that cut it
 abbrev pub IfCut : HubTurn → (Why → Type 0) → Type 0
@@ -155,7 +155,7 @@ pub record MakesEntry (old new : Run) : Type 0 where
 pub record IsTurn (plans : List Plan) (old : Run) (all : AddonStates) (new : Run) (now : AddonStates) : Type 0 where
   pub others : drop old.core.env.addons now.registers ≡ drop old.core.env.addons all.registers
   pub untouched : OnlyInnermostChanges old.core.env.frames new.core.env.frames all.registers now.registers
-  pub seen : HasSeen all.seen (option_to_list (begins_next old.core.env)) now.seen
+  pub seen : HasSeen all.seen (option_to_list (next_ticket_info old.core.env)) now.seen
   pub kept : MakesEntry old new
   pub goes : (history : List Entry) → RunGoesOn plans old history all new history now
 

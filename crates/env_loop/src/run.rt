@@ -13,7 +13,7 @@ ghost use Rattle.env_loop.specs.Recording.{HasSeen, states_of};
 ghost use Rattle.env_loop.specs.RecordedRuns.{IsOpened, opened_run, owes_hub, FitsHub, OneMore};
 ghost use Rattle.env_loop.specs.FollowedRuns.{RunGoesOn, GoesOnAt};
 ghost use Rattle.env_loop.specs.HubTurns.{SpentAtFinals};
-ghost use Rattle.env_loop.specs.Turns.{turn_after, needs_hub, begins_next, begins_at_hub, hub_event, IfCut, Awaits, OnlyInnermostChanges, OwesAlone, EndsSo};
+ghost use Rattle.env_loop.specs.Turns.{turn_after, needs_hub, next_ticket_info, begins_at_hub, hub_event, IfCut, Awaits, OnlyInnermostChanges, OwesAlone, EndsSo};
 
 use crate::turn::LocalTurn;
 use addon_trait::Addon;
@@ -125,7 +125,7 @@ impl EnvRun {
         // The addon of a ticket that begins has seen what it tells, after what it saw before. No other addon has seen anything more.
         ensures seen { let before = map (λ b. seen b) addons.old.items in
             let after = map (λ b. seen b) addons.new.items in
-            HasSeen before (option_to_list (begins_next self.old.core.env)) after }
+            HasSeen before (option_to_list (next_ticket_info self.old.core.env)) after }
 
         // Only the addon of the innermost frame after the turn may have other registers than before.
         ensures untouched { let before = map (λ b. regs b) addons.old.items in

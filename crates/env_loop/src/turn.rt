@@ -11,7 +11,7 @@ ghost use Rattle.env_core.specs.Core.{after_change};
 ghost use Rattle.env_core.specs.Standing.{machine_frame};
 ghost use Rattle.env_loop.specs.Recording.{why_stopped, states_of};
 ghost use Rattle.env_loop.specs.RecordedRuns.{IsSoundEnvironment, cut_at, hub_begun, owes_hub, OneMore, FitsHub};
-ghost use Rattle.env_loop.specs.Turns.{event_turn as turn_at_event, turn_after, begins_next, IsNextEvent, IsAskOf, ReplyIsNoted, IsTurn, MatchTurn, EndsOrOwes, EndsSo};
+ghost use Rattle.env_loop.specs.Turns.{event_turn as turn_at_event, turn_after, next_ticket_info, IsNextEvent, IsAskOf, ReplyIsNoted, IsTurn, MatchTurn, EndsOrOwes, EndsSo};
 
 use crate::run::{EnvRun, FrameEnd};
 use addon_trait::{Addon, ask_at, begin_at, enter_at, note_at};
@@ -121,7 +121,7 @@ impl EnvRun {
         ensures goes { let before = states_of (λ b. regs b) (λ b. seen b) addons.old.items in
             let after = states_of (λ b. regs b) (λ b. seen b) addons.new.items in
             MatchTurn result (map (λ b. plan b) addons.old.items) self.old before self.new after }
-        ensures unbegun { result ≢ LocalTurn.Made → begins_next self.old.core.env ≡ None }
+        ensures unbegun { result ≢ LocalTurn.Made → next_ticket_info self.old.core.env ≡ None }
         ensures ends { IfSome self.old.ending (λ how. owes_hub self.old ≡ false → EndsSo how self.old.core self.new.core) }
         ensures once { owes_hub self.old ≡ true → (self.new ≡ self.old) × (map (λ b. regs b) addons.new.items ≡ map (λ b. regs b) addons.old.items) }
     {
@@ -331,7 +331,7 @@ impl EnvRun {
         ensures goes { let before = states_of (λ b. regs b) (λ b. seen b) addons.old.items in
             let after = states_of (λ b. regs b) (λ b. seen b) addons.new.items in
             MatchTurn result (map (λ b. plan b) addons.old.items) self.old before self.new after }
-        ensures unbegun { result ≢ LocalTurn.Made → begins_next self.old.core.env ≡ None }
+        ensures unbegun { result ≢ LocalTurn.Made → next_ticket_info self.old.core.env ≡ None }
     {
         match next_event(&self.core) {
             NextEvent::Init(addon) => {

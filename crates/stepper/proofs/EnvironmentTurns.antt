@@ -28,7 +28,7 @@ use Rattle.env_loop.specs.HubTurns.{SpentAtFinals}
 use Rattle.env_loop.specs.FollowedRuns.{RunGoesOn}
 use Rattle.env_loop.specs.Recording.{AddonStates, HasSeen}
 use Rattle.env_loop.specs.RecordedRuns.{Run, OneMore, FitsHub, owes_hub}
-use Rattle.env_loop.specs.Turns.{IfCut, Awaits, begins_at_hub, begins_next, turn_of, delivery_told, hub_event, turn_after, needs_hub, OnlyInnermostChanges, OwesAlone}
+use Rattle.env_loop.specs.Turns.{IfCut, Awaits, begins_at_hub, next_ticket_info, turn_of, hub_duty_info_of, hub_event, turn_after, needs_hub, OnlyInnermostChanges, OwesAlone}
 use Rattle.stepper.specs.GivenTurns.{RunAtHub, ComesToTheHub, EnvironmentTurns, IsIdle}
 use Rattle.stepper.specs.Stepping.{measure, RunKeeps, EnvironmentSteps}
 use Rattle.stepper.proofs.OrderedTurns.{keeps-then}
@@ -119,7 +119,7 @@ module _ (n : Numbers) (plans : List Plan) (old owing new : Run) (before after :
       was is = cc
 
       sees-none : owes_hub owing ≡ true → HasSeen all.seen (option_to_list (begins_at_hub owing before.hub)) now.seen → HasSeen all.seen [] now.seen
-      sees-none is seen = subst (λ b. HasSeen all.seen (option_to_list (cond b None (delivery_told (hub_event owing.core.env before.hub)))) now.seen) is seen
+      sees-none is seen = subst (λ b. HasSeen all.seen (option_to_list (cond b None (hub_duty_info_of (hub_event owing.core.env before.hub)))) now.seen) is seen
 
       less : (x y z w e f : ℕ) → x ≡ z → y ≡ w → e ≡ 0 → f ≡ 1 → 2 * (x + y) + e < 2 * (z + w) + f
       less x y z w e f is at none some = omega (arith, is, at, none, some)
@@ -151,12 +151,13 @@ module _ (n : Numbers) (plans : List Plan) (old owing new : Run) (before after :
         hub = t.hub (λ e. cc);
         addons = record {
           registers = t.same (λ e. cc);
-          seen = sees (subst (λ b. HasSeen all.seen (option_to_list (cond b None (delivery_told (hub_event owing.core.env before.hub)))) now.seen) (t.nothing.0 refl).0 t.seen);
+          seen = sees (subst (λ b. HasSeen all.seen (option_to_list (cond b None (hub_duty_info_of (hub_event owing.core.env before.hub)))) now.seen)
+              (t.nothing.0 refl).0 t.seen);
         };
       }
         where
-          sees : HasSeen all.seen (option_to_list (delivery_told (hub_event owing.core.env before.hub))) now.seen → HasSeen all.seen [] now.seen
-          sees seen = subst (λ o. HasSeen all.seen (option_to_list (delivery_told o)) now.seen) none seen
+          sees : HasSeen all.seen (option_to_list (hub_duty_info_of (hub_event owing.core.env before.hub))) now.seen → HasSeen all.seen [] now.seen
+          sees seen = subst (λ o. HasSeen all.seen (option_to_list (hub_duty_info_of o)) now.seen) none seen
 
   -- it made its entry
   made : HubTurned n turn.Made owing before all new after now
@@ -249,7 +250,8 @@ made-unowed old new true is once one = absurd (longer (length old.core.journal) 
 
 pub went-alone : (n : Numbers) (plans : List Plan) (old new : Run) (before : HubSeen) (all now : AddonStates) → IsLedHub n before → turn_after new old.core.env ≡ local.Made
     → OneMore old.core.journal new.core.journal → new.ending ≡ None → length old.core.journal < old.core.limit → (IsTrue (owes_hub old) → new ≡ old)
-    → HasSeen all.seen (option_to_list (begins_next old.core.env)) now.seen → OnlyInnermostChanges old.core.env.frames new.core.env.frames all.registers now.registers
+    → HasSeen all.seen (option_to_list (next_ticket_info old.core.env)) now.seen
+    → OnlyInnermostChanges old.core.env.frames new.core.env.frames all.registers now.registers
     → FitsHub new before → RunKeeps n plans (record { run = old; hub = before; addons = all }) (record { run = new; hub = before; addons = now })
     → EnvironmentSteps n plans local.Made (record { run = old; hub = before; addons = all }) (record { run = new; hub = before; addons = now })
 went-alone n plans old new before all now led made one paid room once seen untouched fits kept = record {

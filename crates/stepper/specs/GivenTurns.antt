@@ -23,7 +23,7 @@ use Rattle.env_loop.specs.ActorTurns.{actor_of, is_over, HoldsNoneExecuted, IsAc
 use Rattle.env_loop.specs.FollowedRuns.{RunGoesOn, GoesOnAt}
 use Rattle.env_loop.specs.Recording.{AddonStates, HasSeen}
 use Rattle.env_loop.specs.RecordedRuns.{Run, OneMore, owes_hub}
-use Rattle.env_loop.specs.Turns.{turn_after, needs_hub, begins_next, begins_at_hub, hub_event, Awaits, OnlyInnermostChanges, OwesAlone}
+use Rattle.env_loop.specs.Turns.{turn_after, needs_hub, next_ticket_info, begins_at_hub, hub_event, Awaits, OnlyInnermostChanges, OwesAlone}
 use Rattle.stepper.specs.TakingPart.{actor_place}
 
 -- a moment of the environment's run
@@ -43,7 +43,7 @@ pub record MakesLocal (old new : RunAtHub) : Type 0 where
   pub one : OneMore old.run.core.journal new.run.core.journal
   pub paid : new.run.ending ≡ None
   pub hub : new.hub ≡ old.hub
-  pub seen : HasSeen old.addons.seen (option_to_list (begins_next old.run.core.env)) new.addons.seen
+  pub seen : HasSeen old.addons.seen (option_to_list (next_ticket_info old.run.core.env)) new.addons.seen
   pub untouched : OnlyInnermostChanges old.run.core.env.frames new.run.core.env.frames old.addons.registers new.addons.registers
 
 -- the hub had to make its turn, by this run. It is the one before, but that something may be owed that was not; and whatever run was followed goes on to it
@@ -64,8 +64,8 @@ pub record MakesAtHub (plans : List Plan) (old new : RunAtHub) : Type 0 where
   pub seen : HasSeen old.addons.seen (option_to_list (begins_at_hub owing old.hub.hub)) new.addons.seen
   pub untouched : OnlyInnermostChanges old.run.core.env.frames new.run.core.env.frames old.addons.registers new.addons.registers
 
--- the hub stopped its call, as full exactly where the history has no room for it, or for want of memory. It made no entry: only the position moved, and the frame is
--- to end so, of which no end was owed before
+-- the hub stopped its call, as full exactly where the history has no room for it, or for want of memory. It made no entry: only the position moved, and the
+-- frame is to end so, of which no end was owed before
 pub record IsStopped (n : Numbers) (plans : List Plan) (old new : RunAtHub) : Type 0 where
   pub owing : Run
   pub comes : ComesToTheHub plans old.addons old.run owing
@@ -102,8 +102,8 @@ pub record Moment (J : Type 0) : Type 0 where
 
 -- A TURN OF A THREAD OR A WORKER
 module _ {J : Type 0} where
-  -- one that has not ended made one entry of the history. It is the same thread with the same script, or the same worker, and the history has exactly the entries
-  -- that it made. A thread ended with calls left only where the next one was stopped. A worker executes what it started in a later turn
+  -- one that has not ended made one entry of the history. It is the same thread with the same script, or the same worker, and the history has exactly the
+  -- entries that it made. A thread ended with calls left only where the next one was stopped. A worker executes what it started in a later turn
   pub record ActorMakes (n : Numbers) (old : ActorRun J) (before : HubSeen) (new : ActorRun J) (after : HubSeen) : Type 0 where
     pub live : is_over old ≡ false
     pub one : AddsEntryOf (actor_of old) before after
