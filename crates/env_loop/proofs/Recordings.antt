@@ -28,7 +28,7 @@ use Rattle.napi_types.proofs.plain.Weaves.{weave-local, sides-local, rises-appen
 use Rattle.napi_types.proofs.runs.InPlace.{own-placed, last-more, placed-more}
 use Rattle.napi_types.proofs.runs.Runs.{run-more, final-more, asked-more, registers-more, sides-more, begun-more}
 use Rattle.env_core.specs.Core.{Core, after_change, opened_core}
-use Rattle.env_loop.specs.Recording.{AddonStates, machine_of, AgreesWhereTold, AgreesWith, HasSeen, IsRecorded, RecordsOwn, IsEnded}
+use Rattle.env_loop.specs.Recording.{AddonStates, machine_of, AgreesWherePlanned, AgreesWith, HasSeen, IsRecorded, RecordsOwn, IsEnded}
 use Rattle.env_loop.proofs.KeptPromises.{keeps-promises}
 use Rattle.env_loop.proofs.SeenLists.{seen-same, seen-more}
 
@@ -156,7 +156,7 @@ gone_change-grown s core hub history all firsts r alone here none =
 
 -- THE INIT FRAMES
 -- blank registers are those that the run starts from
-pub agrees-blank : (p : Plan) (mine own : List ℕ) → mine ≡ blank_registers → own ≡ blank_registers → AgreesWhereTold p mine own
+pub agrees-blank : (p : Plan) (mine own : List ℕ) → mine ≡ blank_registers → own ≡ blank_registers → AgreesWherePlanned p mine own
 agrees-blank None mine own e f = tt
 agrees-blank (Some p) mine own e f = e ∙ sym f
 

@@ -18,7 +18,7 @@ use Rattle.napi_types.specs.runs.Plan.{frame_ask, frames_ask, addon_after_reply,
 use Rattle.napi_types.specs.runs.Setting.{Setting}
 use Rattle.addon_trait.specs.Addons.{OthersStay}
 use Rattle.env_core.specs.Core.{Core}
-use Rattle.env_loop.specs.Recording.{AddonStates, IsOf, AgreesWhereTold, AgreesWith, IsRecorded}
+use Rattle.env_loop.specs.Recording.{AddonStates, IsOf, AgreesWherePlanned, AgreesWith, IsRecorded}
 use Rattle.env_loop.specs.FollowedRuns.{Asks}
 use Rattle.env_loop.specs.RecordedRuns.{IsSoundEnvironment}
 use Rattle.env_loop.specs.Turns.{IsAskIn, ReplyIsNoted, OnlyGiven, OnlyInnermostChanges}
@@ -37,7 +37,7 @@ ask-taken true ps q all f a same told = planned-ask (plan_of ps f.addon) q f (re
 ask-taken false ps q all f a same told = told
 
 -- the same from the run's registers
-own-ask : (p : Plan) (f : Frame) (mine own : List ℕ) (a : Ask) → AgreesWhereTold p mine own → frame_ask p mine f a ≡ frame_ask p own f a
+own-ask : (p : Plan) (f : Frame) (mine own : List ℕ) (a : Ask) → AgreesWherePlanned p mine own → frame_ask p mine f a ≡ frame_ask p own f a
 own-ask None f mine own a agrees = refl
 own-ask (Some p) f mine own a agrees = ap (λ rs. plan_ask p rs f.entry f.asks) agrees
 
@@ -49,29 +49,29 @@ own-asks s all own (f ∷ fs) a there agrees asked =
     asked ∙ ap (λ b. cond f.makes_asks b (ask.Leave None))
     (own-ask (plan_of s.plans f.addon) f (registers_of all f.addon) (registers_of own f.addon) a (agrees f.addon below))
 
-agrees-registers_after_reply : (p q : Plan) (f : Frame) (mine own now : List ℕ) (r : Reply) → q ≡ p → AgreesWhereTold q mine own
-    → IfSome p (λ t. now ≡ registers_after_reply t mine f.entry f.asks r) → AgreesWhereTold q now (addon_after_reply q own f r)
+agrees-registers_after_reply : (p q : Plan) (f : Frame) (mine own now : List ℕ) (r : Reply) → q ≡ p → AgreesWherePlanned q mine own
+    → IfSome p (λ t. now ≡ registers_after_reply t mine f.entry f.asks r) → AgreesWherePlanned q now (addon_after_reply q own f r)
 agrees-registers_after_reply p None f mine own now r e agrees told = tt
 agrees-registers_after_reply None (Some q) f mine own now r e agrees told = cc
 agrees-registers_after_reply (Some p) (Some q) f mine own now r e agrees told = told ∙ cc
 
-pub agrees-with_gifts : (q : Plan) (gifts mine own now : List ℕ) → AgreesWhereTold q mine own → now ≡ with_gifts gifts mine
-    → AgreesWhereTold q now (with_gifts gifts own)
+pub agrees-with_gifts : (q : Plan) (gifts mine own now : List ℕ) → AgreesWherePlanned q mine own → now ≡ with_gifts gifts mine
+    → AgreesWherePlanned q now (with_gifts gifts own)
 agrees-with_gifts None gifts mine own now agrees e = tt
 agrees-with_gifts (Some q) gifts mine own now agrees e = e ∙ ap (with_gifts gifts) agrees
 
 -- the registers still agree where those of one addon agree anew, and the others are as they were
 pub agrees-set : (ps : List Plan) (all now own : Registers) (i : ℕ) (v : List ℕ) → length own ≡ length ps → AgreesWith ps all own
-    → OthersStay all now i → AgreesWhereTold (plan_of ps i) (registers_of now i) v → AgreesWith ps now (set own i v)
+    → OthersStay all now i → AgreesWherePlanned (plan_of ps i) (registers_of now i) v → AgreesWith ps now (set own i v)
 agrees-set ps all now own i v count agrees others here k below = elim (cases_eq k i) [
   | inl e ↦
       let inside : i < length own = omega (arith, count, below, e) in
-      let A : ℕ → Type 0 = λ m. AgreesWhereTold (plan_of ps m) (registers_of now m) (registers_of (set own i v) m) in
-      let B : List ℕ → Type 0 = λ x. AgreesWhereTold (plan_of ps i) (registers_of now i) x in
+      let A : ℕ → Type 0 = λ m. AgreesWherePlanned (plan_of ps m) (registers_of now m) (registers_of (set own i v) m) in
+      let B : List ℕ → Type 0 = λ x. AgreesWherePlanned (plan_of ps i) (registers_of now i) x in
       subst A (sym e) (subst B (sym (get_or-set_same own i v [] inside)) here)
   | inr ne ↦
-      let C : List ℕ → Type 0 = λ x. AgreesWhereTold (plan_of ps k) x (registers_of (set own i v) k) in
-      let D : List ℕ → Type 0 = λ x. AgreesWhereTold (plan_of ps k) (registers_of all k) x in
+      let C : List ℕ → Type 0 = λ x. AgreesWherePlanned (plan_of ps k) x (registers_of (set own i v) k) in
+      let D : List ℕ → Type 0 = λ x. AgreesWherePlanned (plan_of ps k) (registers_of all k) x in
       let mine : registers_of now k ≡ registers_of all k = ap (λ l. registers_of l k) others ∙ get_or-set_other all i k (registers_of now i) [] ne in
       subst C (sym mine) (subst D (sym (get_or-set_other own i k v [] ne)) (agrees k below))
 ]

@@ -46,13 +46,13 @@ machine_of limits core hub history = record {
 }
 
 -- the registers of an addon are those of the run, where it tells its plan
-abbrev pub AgreesWhereTold : Plan → List ℕ → List ℕ → Type 0
-AgreesWhereTold None mine own = Unit {0}
-AgreesWhereTold (Some plan) mine own = mine ≡ own
+abbrev pub AgreesWherePlanned : Plan → List ℕ → List ℕ → Type 0
+AgreesWherePlanned None mine own = Unit {0}
+AgreesWherePlanned (Some plan) mine own = mine ≡ own
 
 -- the registers of each addon that tells its plan are those of the run
 abbrev pub AgreesWith : List Plan → Registers → Registers → Type 0
-AgreesWith plans all own = (addon : ℕ) → addon < length plans → AgreesWhereTold (plan_of plans addon) (registers_of all addon) (registers_of own addon)
+AgreesWith plans all own = (addon : ℕ) → addon < length plans → AgreesWherePlanned (plan_of plans addon) (registers_of all addon) (registers_of own addon)
 
 -- each addon has seen, after what it saw first, the duties whose frames of its began along a run, in their order, each with what it told
 abbrev pub HasSeen : List (List DueInfo) → List DueInfo → List (List DueInfo) → Type 0
@@ -89,13 +89,13 @@ pub record RecordsOwn (s : Setting) (core : Core) (hub : Hub) (history : List En
 pub record KeepsPromises (s : Setting) (asks : List Ask) (trace : List Entry) : Type 0 where
   -- each collection kept exactly what its roots reached
   pub collected : KeepsReached (opening_of s) asks trace
-  -- tickets count from 1 in the order of registration; hooks began in the reverse of the order in which they were added, and what began after `finals` in the order
-  -- of registration
+  -- tickets count from 1 in the order of registration; hooks began in the reverse of the order in which they were added, and what began after `finals` in the
+  -- order of registration
   pub counted : TicketsCount trace
   pub hooks : HooksFall trace
   pub finals : FinalsRise trace
-  -- each completion, item, function's finalizer, finalizer and hook that was made and not withdrawn began exactly once, one that was withdrawn never, and no other
-  -- duty began
+  -- each completion, item, function's finalizer, finalizer and hook that was made and not withdrawn began exactly once, one that was withdrawn never, and no
+  -- other duty began
   pub once : Once trace
   -- the items of each thread-safe function count from 1 as they were accepted, and began in that order
   pub items : (f : ℕ) → CountItems f trace
@@ -105,8 +105,8 @@ pub record KeepsPromises (s : Setting) (asks : List Ask) (trace : List Entry) : 
   pub cancels : CancelsHold trace
 
 -- a run that came to its end, as it is left: the weave of the two lists is a run of the script to `gone`, which keeps what it promises. The journal stands in
--- the order of its places, each entry of it in its place, each list has its own entries, the registers of the script's addons are the run's, and each addon has seen
--- what began in the run
+-- the order of its places, each entry of it in its place, each list has its own entries, the registers of the script's addons are the run's, and each addon has
+-- seen what began in the run
 pub record IsEnded (s : Setting) (journal : List Local) (history : List Entry) (all : AddonStates) (firsts : List (List DueInfo)) : Type 0 where
   pub asks : List Ask
   pub ended : EndsBy s asks (weave journal history)

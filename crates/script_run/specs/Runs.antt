@@ -23,7 +23,7 @@ use Rattle.napi_types.specs.all_runs.ItemOrder.{CountItems}
 use Rattle.napi_types.specs.all_runs.Order.{TicketsCount, HooksFall, FinalsRise}
 use Rattle.napi_types.specs.all_runs.TurnsInOrder.{AroseByTurns}
 use Rattle.addon_trait.specs.Addons.{seen_of}
-use Rattle.env_loop.specs.Recording.{AgreesWhereTold}
+use Rattle.env_loop.specs.Recording.{AgreesWherePlanned}
 use Rattle.stepper.specs.TakingPart.{turns_of, rounds_of}
 use Rattle.script_run.specs.Loading.{told_plans, setting_with, hub_numbers}
 use Rattle.script_run.specs.ScriptActors.{AreActors, MadeItsScript}
@@ -42,19 +42,19 @@ pub record IsRunOf (script : Script) (handed : List Plan) (left : Record) (regis
   pub parted : IsParted (opening_of (setting_of script handed)) asks left.journal left.history
   -- each entry of the journal stands first, or right behind an entry of the environment; or it is the end of a frame that was cut at a shared call
   pub placed : StandInPlace (opening_of (setting_of script handed)) None asks (weave left.journal left.history)
-  pub agrees : (addon : ℕ) → addon < length script.addons → AgreesWhereTold (plan_of (setting_of script handed).plans addon)
+  pub agrees : (addon : ℕ) → addon < length script.addons → AgreesWherePlanned (plan_of (setting_of script handed).plans addon)
       (registers_of registers addon) (registers_of (final_registers (setting_of script handed) asks (weave left.journal left.history)) addon)
   -- each addon that was handed in has seen, after what it had seen before, exactly the duties whose frames of its began in the run, in their order, each with
   -- its gifts
   pub seen : (addon : ℕ) → seen_of seens_after addon
       ≡ seen_of seens addon ++ of_addon addon (begun_along (opening_of (setting_of script handed)) asks (weave left.journal left.history))
-  -- tickets count from 1 in the order of registration; hooks began in the reverse of the order in which they were added, and what began after `finals` in the order
-  -- of registration
+  -- tickets count from 1 in the order of registration; hooks began in the reverse of the order in which they were added, and what began after `finals` in the
+  -- order of registration
   pub counted : TicketsCount (weave left.journal left.history)
   pub hooks : HooksFall (weave left.journal left.history)
   pub finals : FinalsRise (weave left.journal left.history)
-  -- each completion, item, function's finalizer, finalizer and hook that was made and not withdrawn began exactly once, one that was withdrawn never, and no other
-  -- duty began; none was made twice, and only an accepted `remove_wrap`, `set_instance_data` or `remove_env_cleanup_hook` withdrew one
+  -- each completion, item, function's finalizer, finalizer and hook that was made and not withdrawn began exactly once, one that was withdrawn never, and no
+  -- other duty began; none was made twice, and only an accepted `remove_wrap`, `set_instance_data` or `remove_env_cleanup_hook` withdrew one
   pub once : Once (weave left.journal left.history)
   -- the items of each thread-safe function count from 1 as they were accepted, and began in that order
   pub items : (f : ℕ) → CountItems f (weave left.journal left.history)
@@ -96,8 +96,8 @@ pub record HasRun (script : Script) (handed : Handed) (left : Record) (after : H
   pub journal : length left.journal ≤ most_entries
   pub history : length left.history ≤ most_entries
 
--- a script that the host can run: it asks for a version that is supported, it has eight addons at most, its texts can be counted in 32 bits, and it has threads, workers and words of a schedule as a
--- script may
+-- a script that the host can run: it asks for a version that is supported, it has eight addons at most, its texts can be counted in 32 bits, and it has
+-- threads, workers and words of a schedule as a script may
 pub record IsSmall (script : Script) : Type 0 where
   pub version : is_supported script.version ≡ true
   pub few : length script.addons ≤ 8
