@@ -7,7 +7,7 @@ use Rattle.napi_types.specs.parts.Frames.{Frame, asks_made}
 use Rattle.napi_types.specs.environment.Calls.{answer}
 use Rattle.napi_types.specs.environment.Changes.{with_noted_status, call_change, call_entry, number_of}
 use Rattle.napi_types.specs.environment.Environment.{Environment}
-use Rattle.napi_types.proofs.environment.Answers.{answer-keeps}
+use Rattle.napi_types.proofs.environment.AnswersKeep.{answer-keeps}
 use Rattle.env_core.specs.Journal.{told_entry}
 use Rattle.env_core.specs.State.{Answers, Calls}
 

@@ -37,7 +37,7 @@ use Rattle.napi_types.specs.environment.Tickets.{ticket_change, ticket_in, next_
 use Rattle.napi_types.proofs.parts.BookSteps.{step-length}
 use Rattle.napi_types.proofs.parts.Books.{owed-begun, lowest-due, length-changed_where}
 use Rattle.napi_types.proofs.parts.Moved.{IsUnder, PassesTest}
-use Rattle.napi_types.proofs.environment.Answers.{course-parts, KeepsButAsk, call_change-keeps, call-reserved}
+use Rattle.napi_types.proofs.environment.AnswersKeep.{course-parts, KeepsButAsk, call_change-keeps, call-reserved}
 use Rattle.napi_types.proofs.environment.FrameChanges.{book_left, owed-left, KeepsButFrame, ended-keeps, left-parts}
 use Rattle.napi_types.proofs.environment.HookedSteps.{hooked-called, hooked-ended, hooked-begun, hooked-phase}
 use Rattle.napi_types.proofs.environment.Registrations.{owed-in}

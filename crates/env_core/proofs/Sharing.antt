@@ -15,7 +15,7 @@ use Rattle.napi_types.specs.environment.Environment.{Environment, TsfnRoot}
 use Rattle.napi_types.specs.environment.Hooked.{IsHooked}
 use Rattle.napi_types.specs.environment.JournalRoom.{gone_place, reserved_journal}
 use Rattle.napi_types.specs.environment.SharedCalls.{with_root, without_root, after_shared}
-use Rattle.napi_types.proofs.environment.Answers.{local-counted}
+use Rattle.napi_types.proofs.environment.AnswersKeep.{local-counted}
 use Rattle.napi_types.proofs.environment.HookedSteps.{unchanged}
 use Rattle.env_core.specs.Core.{IsCore}
 use Rattle.env_core.specs.Journal.{Pages}

@@ -22,7 +22,7 @@ use Rattle.napi_types.specs.environment.Changes.{is_fresh_result, number_of}
 use Rattle.napi_types.specs.environment.Environment.{Environment, TsfnRoot, with_heap, in_heap}
 use Rattle.napi_types.specs.environment.Refusals.{group_refusal, timely_refusal}
 use Rattle.napi_types.proofs.plain.Lists.{option_or-none}
-use Rattle.napi_types.proofs.environment.Answers.{heap_answer-keeps}
+use Rattle.napi_types.proofs.environment.AnswersKeep.{heap_answer-keeps}
 use Rattle.std.specs.Option.{option_or}
 use Rattle.handle_scope.specs.HandleScopes.{HandleScopes}
 use Rattle.env_values.specs.SeenValues.{seen_frame, heap_of, KeepsValues}

@@ -27,7 +27,7 @@ use Rattle.napi_types.specs.runs.CallRoom.{room_of}
 use Rattle.napi_types.specs.runs.Machine.{Machine}
 use Rattle.napi_types.specs.runs.Plan.{caller_after_reply, with_addon_gifts, with_callee_gifts}
 use Rattle.napi_types.specs.runs.Step.{locally}
-use Rattle.napi_types.proofs.environment.Answers.{course-parts, answer-keeps}
+use Rattle.napi_types.proofs.environment.AnswersKeep.{course-parts, answer-keeps}
 use Rattle.napi_types.proofs.environment.FrameChanges.{enter_change-keeps, asked_change-call_change, asked_change-enter_change, KeepsButFrames, asked_change-fits}
 use Rattle.napi_types.proofs.environment.Owners.{callee-owned}
 use Rattle.napi_types.proofs.environment.StandingFrames.{duties-asked}

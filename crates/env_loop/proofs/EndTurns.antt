@@ -30,7 +30,7 @@ use Rattle.napi_types.specs.runs.Machine.{Machine}
 use Rattle.napi_types.specs.runs.Plan.{caller_after_reply, after_event}
 use Rattle.napi_types.specs.runs.Setting.{Setting, opening_of}
 use Rattle.napi_types.specs.runs.Step.{locally, env_step, may_cut}
-use Rattle.napi_types.proofs.environment.Answers.{course-parts}
+use Rattle.napi_types.proofs.environment.AnswersKeep.{course-parts}
 use Rattle.napi_types.proofs.environment.FrameChanges.{KeepsButFrame, ended-keeps}
 use Rattle.napi_types.proofs.environment.FrameEnds.{Ends, ended-ends}
 use Rattle.napi_types.proofs.environment.Owners.{owned-ended}

@@ -18,7 +18,7 @@ use Rattle.napi_types.specs.environment.Entering.{asked_change}
 use Rattle.napi_types.specs.environment.Environment.{Environment}
 use Rattle.napi_types.specs.environment.Hooked.{IsHooked}
 use Rattle.napi_types.specs.environment.Owners.{IsOwned}
-use Rattle.napi_types.proofs.environment.Answers.{course-parts}
+use Rattle.napi_types.proofs.environment.AnswersKeep.{course-parts}
 use Rattle.napi_types.proofs.environment.FrameChanges.{KeepsButFrame, ended-keeps, KeepsButFrames, asked_change-fits}
 use Rattle.napi_types.proofs.environment.HookedSteps.{hooked-asked, hooked-ended}
 use Rattle.napi_types.proofs.environment.Owners.{owned-asked, owned-ended, within-asked, within-ended}

@@ -25,7 +25,7 @@ use Rattle.napi_types.specs.environment.HookCalls.{unhooked}
 use Rattle.napi_types.specs.environment.ReferenceCalls.{with_references}
 use Rattle.napi_types.specs.environment.Registering.{withdrawing}
 use Rattle.napi_types.specs.environment.Registry.{registry_of, with_registry}
-use Rattle.napi_types.proofs.environment.Answers.{KeepsButAsk, call_change-keeps}
+use Rattle.napi_types.proofs.environment.AnswersKeep.{KeepsButAsk, call_change-keeps}
 use Rattle.napi_types.proofs.environment.Cases.{answer-by}
 use Rattle.napi_types.proofs.environment.Effects as does
 use Rattle.napi_types.proofs.environment.Effects.{Effect, registered-by, effect-of}

@@ -1,5 +1,5 @@
 -- On the environment: what its calls and the ends of its frames keep.
-pub mod Answers
+pub mod AnswersKeep
 pub mod Cases
 pub mod Changed
 pub mod Effects

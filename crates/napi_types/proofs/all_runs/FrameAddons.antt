@@ -51,7 +51,7 @@ use Rattle.napi_types.specs.runs.Step.{Step, by_hub, ticket_step, move_step, eve
 use Rattle.napi_types.specs.all_runs.HubLaws.{AreOfScript, AddonsAreTheScripts}
 use Rattle.napi_types.proofs.plain.Conditions.{and-right}
 use Rattle.napi_types.proofs.plain.Lists.{none-first, not-unless, some-stand}
-use Rattle.napi_types.proofs.environment.Answers.{course-parts}
+use Rattle.napi_types.proofs.environment.AnswersKeep.{course-parts}
 use Rattle.napi_types.proofs.environment.FrameChanges.{ended-keeps, asked_change-fits}
 use Rattle.napi_types.proofs.environment.FrameEnds.{ended-ends}
 use Rattle.napi_types.proofs.environment.Owners.{Below, body-owned, caller-owned, counted-owned, row-unrefused, owned-asked, owned-ended, owned-init, owned-ticket, owned-phase, owned-opening}

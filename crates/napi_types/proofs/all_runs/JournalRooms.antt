@@ -40,7 +40,7 @@ use Rattle.napi_types.specs.runs.Step.{Step, by_hub, ticket_step, move_step, eve
 use Rattle.napi_types.specs.environment.Hooked.{is_late}
 use Rattle.napi_types.proofs.plain.Conditions.{and-right, not-true}
 use Rattle.napi_types.proofs.parts.Books.{owed-begun, NoneRegistered, none-owed_tickets}
-use Rattle.napi_types.proofs.environment.Answers.{SameCourse, course_of, course-parts, local-counted}
+use Rattle.napi_types.proofs.environment.AnswersKeep.{SameCourse, course_of, course-parts, local-counted}
 use Rattle.napi_types.proofs.environment.FrameChanges.{KeepsButFrame, ended-keeps, left-parts, owed-left, KeepsButFrames, asked_change-fits}
 use Rattle.napi_types.proofs.environment.FrameEnds.{Ends, ended-ends}
 use Rattle.napi_types.proofs.environment.Registrations.{none-asked, none-ended, none-begun, owed-in}

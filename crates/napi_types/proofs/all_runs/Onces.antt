@@ -44,7 +44,7 @@ use Rattle.napi_types.proofs.plain.Conditions.{and-right}
 use Rattle.napi_types.proofs.parts.BookSteps.{BookStep, stays, adds, drops, collects, swaps}
 use Rattle.napi_types.proofs.parts.Books.{owed-cons, Leaves, withdrawn-leaves, leaves-in, due-keeps, ended-keeps, length-changed_where}
 use Rattle.napi_types.proofs.parts.Moved.{registration_at-changed_where, registration_at-new, registration_at-old}
-use Rattle.napi_types.proofs.environment.Answers.{call_change-keeps}
+use Rattle.napi_types.proofs.environment.AnswersKeep.{call_change-keeps}
 use Rattle.napi_types.proofs.environment.FrameChanges.{book_left, ended-keeps as end_change-keeps, left-parts, enter_change-keeps, registry-parts}
 use Rattle.napi_types.proofs.environment.Cases.{asked-by, ended-by}
 use Rattle.napi_types.proofs.hub.HubDuties.{OfHub, SparesTickets, hub_step-spares}

@@ -29,7 +29,7 @@ use Rattle.napi_types.specs.runs.Run.{IsNext, IsRunBy, after}
 use Rattle.napi_types.proofs.parts.Books.{NoneRegistered, all_due-none}
 use Rattle.napi_types.proofs.parts.Moved.{at-state, at-cause}
 use Rattle.napi_types.proofs.parts.Moves.{MovesKeep, each-kept, unowed-moved}
-use Rattle.napi_types.proofs.environment.Answers.{SameCourse, course-parts}
+use Rattle.napi_types.proofs.environment.AnswersKeep.{SameCourse, course-parts}
 use Rattle.napi_types.proofs.environment.FrameChanges.{HasRegistry, registry-parts, ended-keeps, asked_change-fits}
 use Rattle.napi_types.proofs.environment.FrameEnds.{ended-ends}
 use Rattle.napi_types.proofs.environment.HookedSteps.{unchanged, hooked-opening, hooked-opened, hooked-init, hooked-asked, hooked-ended, hooked-begun, hooked-phase, hooked-gone}

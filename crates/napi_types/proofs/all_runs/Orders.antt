@@ -49,7 +49,7 @@ use Rattle.napi_types.proofs.plain.Conditions.{and-right}
 use Rattle.napi_types.proofs.plain.Found.{has-found, found-filter}
 use Rattle.napi_types.proofs.parts.Books.{NoneRegistered, withdrawn-leaves, leaves-in}
 use Rattle.napi_types.proofs.parts.Moved.{at-state, at-cause}
-use Rattle.napi_types.proofs.environment.Answers.{course-parts}
+use Rattle.napi_types.proofs.environment.AnswersKeep.{course-parts}
 use Rattle.napi_types.proofs.environment.FrameChanges.{HasRegistry, registry-parts, KeepsButFrame, ended-keeps, left-parts, asked_change-fits}
 use Rattle.napi_types.proofs.environment.FrameEnds.{ended-ends}
 use Rattle.napi_types.proofs.environment.Registrations.{registered-holds}

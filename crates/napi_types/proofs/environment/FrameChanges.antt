@@ -24,7 +24,7 @@ use Rattle.napi_types.specs.environment.Refusals.{refusal}
 use Rattle.napi_types.specs.environment.Registry.{Registry, registry_of}
 use Rattle.napi_types.proofs.parts.BookSteps.{step-owed}
 use Rattle.napi_types.proofs.parts.Books.{owed-ended}
-use Rattle.napi_types.proofs.environment.Answers.{course_of, KeepsButAsk, call_change-keeps, local-counted}
+use Rattle.napi_types.proofs.environment.AnswersKeep.{course_of, KeepsButAsk, call_change-keeps, local-counted}
 
 -- THE REGISTRY
 -- an environment has the parts of a registry

@@ -38,7 +38,7 @@ use Rattle.napi_types.proofs.plain.Maps.{filter_all}
 use Rattle.napi_types.proofs.parts.AttachedTickets.{HoldsAttached, HoldsAttached-from, tickets_in-holds, tickets_where-holds, wrap_ticket-holds, HoldsAttached-with_wrap, HoldsAttached-without_wrap, HoldsAttached-with_attached, HoldsAttached-left_on, HoldsAttached-weaker}
 use Rattle.napi_types.proofs.parts.Books.{withdrawn-leaves, leaves-in}
 use Rattle.napi_types.proofs.parts.Moved.{at-state}
-use Rattle.napi_types.proofs.environment.Answers.{course-parts}
+use Rattle.napi_types.proofs.environment.AnswersKeep.{course-parts}
 use Rattle.napi_types.proofs.environment.Effects as does
 use Rattle.napi_types.proofs.environment.Effects.{Finalizes, HangsOn, Attaches, Effect, effect-of}
 use Rattle.napi_types.proofs.environment.FrameChanges.{HasRegistry, registry-parts, book_left, KeepsButFrame, ended-keeps, KeepsAndEnters, enter_change-keeps}

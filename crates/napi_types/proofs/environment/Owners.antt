@@ -49,7 +49,7 @@ use Rattle.napi_types.specs.environment.Tickets.{ticket_change}
 use Rattle.napi_types.proofs.plain.Conditions.{and-left, and-right, not-true}
 use Rattle.napi_types.proofs.plain.Lists.{none-first, none-last, not-unless}
 use Rattle.napi_types.proofs.parts.Moves.{MovesKeep, each-kept}
-use Rattle.napi_types.proofs.environment.Answers.{answer-keeps}
+use Rattle.napi_types.proofs.environment.AnswersKeep.{answer-keeps}
 use Rattle.napi_types.proofs.environment.Effects as does
 use Rattle.napi_types.proofs.environment.Effects.{Effect, registered-by, effect-of}
 use Rattle.napi_types.proofs.environment.FrameChanges.{KeepsButFrame, ended-keeps, KeepsAndEnters, enter_change-keeps, registry-parts}

@@ -26,7 +26,7 @@ use Rattle.napi_types.proofs.plain.Lists.{none-there}
 use Rattle.napi_types.proofs.parts.BookSteps.{BookStep, stays, adds, drops, collects, swaps}
 use Rattle.napi_types.proofs.parts.Books.{NoneRegistered, owed-due_where}
 use Rattle.napi_types.proofs.parts.Moves.{Falls, Withdraws, Begins, Ends, unregistered-moved, MovesKeep, each-kept, changed_where-both}
-use Rattle.napi_types.proofs.environment.Answers.{call_change-keeps, torn-makes-none}
+use Rattle.napi_types.proofs.environment.AnswersKeep.{call_change-keeps, torn-makes-none}
 use Rattle.napi_types.proofs.environment.FrameChanges.{book_left, registry-parts, ended-keeps, left-parts, enter_change-keeps}
 use Rattle.napi_types.proofs.environment.Cases.{asked-by}
 

@@ -16,7 +16,7 @@ use Rattle.napi_types.specs.environment.Ends.{end_change}
 use Rattle.napi_types.specs.environment.Entering.{asked_change}
 use Rattle.napi_types.specs.environment.Environment.{Environment}
 use Rattle.napi_types.specs.environment.Tickets.{ticket_change}
-use Rattle.napi_types.proofs.environment.Answers.{answer-keeps}
+use Rattle.napi_types.proofs.environment.AnswersKeep.{answer-keeps}
 use Rattle.napi_types.proofs.environment.FrameChanges.{ended-keeps, enter_change-keeps}
 use Rattle.napi_types.proofs.environment.Registrations.{registered-holds, AreUncalled}
 use Rattle.napi_types.proofs.environment.Cases.{asked-by}
