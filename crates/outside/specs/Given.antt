@@ -9,8 +9,8 @@ use Rattle.napi_types.specs.scripts.Script.{IsScript, IsWrong, HasWrongShape}
 use Rattle.napi_types.specs.scripts.ScriptReading.{IsNoJson}
 use Rattle.outside.specs.Ends.{Input}
 use Rattle.outside.specs.Reading.{longest_source, GaveFront, GaveTooMany}
-use Rattle.outside.specs.declared.line.Line.{Line}
-use Rattle.outside.specs.declared.line.Line.TheVariants as line
+use Rattle.outside.specs.declared.message.Message.{Message}
+use Rattle.outside.specs.declared.message.Message.TheVariants as line
 use Rattle.outside.specs.declared.scripts.Demand.{Demand}
 use Rattle.outside.specs.declared.scripts.Demand.TheVariants as demand
 
@@ -21,7 +21,7 @@ is_met demand.Nothing script = true
 is_met demand.Schedule script = is_some script.schedule
 
 -- why a script of the right form does not run: more addons than were handed in, or else no schedule that is demanded
-abbrev pub Misses : Demand → Script → ℕ → Line → Type 0
+abbrev pub Misses : Demand → Script → ℕ → Message → Type 0
 Misses d script handed line.TooManyAddons = handed < length script.addons
 Misses d script handed line.Schedule = (length script.addons ≤ handed) × (is_met d script ≡ false)
 Misses d script handed _ = ⊥
@@ -78,7 +78,7 @@ pub record GaveTooMuch (input : Input) : Type 0 where
 
 -- THE ANSWER
 -- why a line stands in place of a text, where the source is read. The schedule comes last: it is missed only where all else is right
-abbrev pub CausesOfReading : Demand → Line → Input → ℕ → Type 0
+abbrev pub CausesOfReading : Demand → Message → Input → ℕ → Type 0
 CausesOfReading d line.Usage input handed = ⊥
 CausesOfReading d line.NotJson input handed = GaveNoJson input
 CausesOfReading d (line.Shape path) input handed = GaveWrongShape input path
@@ -97,12 +97,12 @@ pub record GaveDemanded (d : Demand) (input : Input) (handed : ℕ) (script : Sc
   pub met : is_met d script ≡ true
 
 -- it did, or this line tells why not
-abbrev pub GaveOrRefused : Demand → Input → ℕ → Result Script Line → Type 0
+abbrev pub GaveOrRefused : Demand → Input → ℕ → Result Script Message → Type 0
 GaveOrRefused d input handed (Ok script) = GaveDemanded d input handed script
 GaveOrRefused d input handed (Err l) = CausesOfReading d l input handed
 
 -- what became of the source for this answer: it gave a front of what it had left, and a read that failed was counted only where the answer tells one
-pub record ReadFor {A : Type 0} (answer : Result A Line) (input : Input) : Type 0 where
+pub record ReadFor {A : Type 0} (answer : Result A Message) (input : Input) : Type 0 where
   pub front : GaveFront input.before input.after
   pub rises : input.faults ≤ input.faults_after
   pub counted : (answer ≡ Err line.ReadFault → ⊥) → input.faults_after ≡ input.faults

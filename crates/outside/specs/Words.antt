@@ -7,8 +7,8 @@ use Rattle.napi_types.specs.declared.script.LimitName.{LimitName}
 use Rattle.napi_types.specs.declared.script.LimitName.TheVariants as limit
 use Rattle.outside.specs.declared.commands.Command.{Command}
 use Rattle.outside.specs.declared.commands.Command.TheVariants as command
-use Rattle.outside.specs.declared.line.Line.{Line}
-use Rattle.outside.specs.declared.line.Line.TheVariants as line
+use Rattle.outside.specs.declared.message.Message.{Message}
+use Rattle.outside.specs.declared.message.Message.TheVariants as line
 
 -- THE COMMAND LINES
 -- a word of one to seven digits
@@ -71,7 +71,7 @@ abbrev pub too_long_line : List ℕ
 too_long_line = codes "refused length\n"
 
 -- the text of a line, with its newline
-abbrev pub line_text : Line → List ℕ
+abbrev pub line_text : Message → List ℕ
 line_text line.Usage = usage_line
 line_text line.NotJson = not_json_line
 line_text (line.Shape path) = shape_line path
@@ -83,7 +83,7 @@ line_text line.ReadFault = read_fault_line
 line_text line.TooLong = too_long_line
 
 -- the status with which the program ends that writes a line
-abbrev pub line_status : Line → ℕ
+abbrev pub line_status : Message → ℕ
 line_status line.Usage = 2
 line_status line.NotJson = 3
 line_status (line.Shape _) = 3

@@ -12,7 +12,7 @@ use Rattle.outside.specs.Ends.{Output}
 use Rattle.outside.specs.Words.{line_status, line_text}
 use Rattle.outside.specs.declared.commands.Command.{Command}
 use Rattle.outside.specs.declared.commands.Command.TheVariants as command
-use Rattle.outside.specs.declared.line.Line.{Line}
+use Rattle.outside.specs.declared.message.Message.{Message}
 
 -- THE TEXT
 -- what a command writes of a run with these texts: its trace, or the summary of that
@@ -54,11 +54,11 @@ pub record WroteRun (written : List ℕ) (output : Output) (status : ℕ) : Type
   pub told : output.faults_after ≢ output.faults → status ≡ 5
 
 -- this line was written in place of a text, and its status is the answer
-pub record WroteRefusal (l : Line) (output : Output) (status : ℕ) : Type 0 where
+pub record WroteRefusal (l : Message) (output : Output) (status : ℕ) : Type 0 where
   pub status_is : status ≡ line_status l
   pub line : WroteLine output (line_text l)
 
 -- what came of the words was written: a run of a script with these texts as its command wants it, or the line
-abbrev pub WroteOutcome : Result (Command × List (List ℕ)) Line → Record → Output → ℕ → Type 0
+abbrev pub WroteOutcome : Result (Command × List (List ℕ)) Message → Record → Output → ℕ → Type 0
 WroteOutcome (Ok ran) left output status = WroteRun (text_written ran.0 ran.1 left) output status
 WroteOutcome (Err l) left output status = WroteRefusal l output status

@@ -3,14 +3,14 @@
 #![tactic(auto)]
 
 mod commands;
-mod line;
+mod message;
 mod outcome;
 mod reading;
 mod scripts;
 mod standard;
 
 pub use commands::{Command, command_of};
-pub use line::Line;
+pub use message::Message;
 pub use outcome::write_outcome;
 pub use scripts::{Demand, script_from_source};
 pub use standard::{StdSink, StdSource};

@@ -7,7 +7,7 @@ ghost use Rattle.outside.specs.Words.{line_text};
 ghost use Rattle.outside.specs.Written.{text_written, IsCounted, WroteOutcome, WroteRun, WroteRefusal};
 
 use crate::commands::Command;
-use crate::line::Line;
+use crate::message::Message;
 use napi_types::{Failed, Record, Sink, Texts};
 use trace_text::{write_rising_trace, write_summary};
 
@@ -48,7 +48,7 @@ fn write_run<K: Sink>(command: Command, sink: &mut K, texts: &Texts, left: &Reco
 }
 
 /// Writes a line in place of a text, and answers its status.
-fn write_refusal<K: Sink>(sink: &mut K, line: Line) -> u8
+fn write_refusal<K: Sink>(sink: &mut K, line: Message) -> u8
     ensures wrote { let output = output_of K.taken K.faults sink.old sink.new in
         WroteRefusal line output result }
     ensures faults { K.faults sink.old ≤ K.faults sink.new }
@@ -63,7 +63,7 @@ fn write_refusal<K: Sink>(sink: &mut K, line: Line) -> u8
 /// The status of a run is 0 where the whole text was written, and 5 where the sink failed within it. A line has its own status, whether it was
 /// written whole or not.
 pub fn write_outcome<K: Sink>(
-    outcome: Result<(Command, Texts), Line>,
+    outcome: Result<(Command, Texts), Message>,
     sink: &mut K,
     left: &Record,
 ) -> u8

@@ -3,7 +3,7 @@ ghost use Rattle.std.specs.Prelude.{◌≡◌, ◌<◌, ◌≤◌, ◌^◌, leng
 ghost use Rattle.outside.specs.Ends.{input_of};
 ghost use Rattle.outside.specs.Given.{is_met, GaveOrRefused, Misses, ReadFor};
 
-use crate::line::Line;
+use crate::message::Message;
 use crate::reading::{ReadError, read_all};
 use napi_types::{Script, Source};
 use script_read::{Refusal, read_script};
@@ -33,17 +33,17 @@ impl Demand {
     }
 
     /// The script, where there are enough addons for it, and it is what is demanded.
-    fn admit(self, script: Script, handed: usize) -> Result<Script, Line>
+    fn admit(self, script: Script, handed: usize) -> Result<Script, Message>
         ensures same { IfOk result (λ same. same ≡ script) }
         ensures enough { OnOk result (length script.addons ≤ handed) }
         ensures met { OnOk result (is_met self script ≡ true) }
         ensures err { IfErr result (λ line. Misses self script handed line) }
     {
         if handed < script.addons.items().len() {
-            return Err(Line::TooManyAddons);
+            return Err(Message::TooManyAddons);
         }
         if !self.is_met(&script) {
-            return Err(Line::Schedule);
+            return Err(Message::Schedule);
         }
         Ok(script)
     }
@@ -51,13 +51,13 @@ impl Demand {
 
 /// The script, where its texts can be counted in 32 bits. No source is long enough for more; a table of so many is taken for want
 /// of memory.
-fn with_countable_texts(script: Script) -> Result<Script, Line>
+fn with_countable_texts(script: Script) -> Result<Script, Message>
     ensures same { IfOk result (λ same. same ≡ script) }
     ensures texts { IfOk result (λ same. length same.texts < 2 ^ 32) }
-    ensures err { IfErr result (λ line. line ≡ Line.NoMemory) }
+    ensures err { IfErr result (λ line. line ≡ Message.NoMemory) }
 {
     if script.texts.items().len() > MOST_TEXTS {
-        return Err(Line::NoMemory);
+        return Err(Message::NoMemory);
     }
     Ok(script)
 }
@@ -70,7 +70,7 @@ pub fn script_from_source<S: Source>(
     demand: Demand,
     source: &mut S,
     handed: usize,
-) -> Result<Script, Line>
+) -> Result<Script, Message>
     ensures answer { let input = input_of S.left S.faults source.old source.new in
         GaveOrRefused demand input handed result }
     ensures source { let input = input_of S.left S.faults source.old source.new in
@@ -78,15 +78,15 @@ pub fn script_from_source<S: Source>(
 {
     let bytes = match read_all(alloc, source) {
         Ok(bytes) => bytes,
-        Err(ReadError::NoMemory) => return Err(Line::NoMemory),
-        Err(ReadError::Fault) => return Err(Line::ReadFault),
-        Err(ReadError::Long) => return Err(Line::TooLong),
+        Err(ReadError::NoMemory) => return Err(Message::NoMemory),
+        Err(ReadError::Fault) => return Err(Message::ReadFault),
+        Err(ReadError::Long) => return Err(Message::TooLong),
     };
     match read_script(alloc, &bytes) {
         Ok(script) => demand.admit(with_countable_texts(script)?, handed),
-        Err(Refusal::NotJson) => Err(Line::NotJson),
-        Err(Refusal::Shape { path }) => Err(Line::Shape(path)),
-        Err(Refusal::Limit { which }) => Err(Line::Limit(which)),
-        Err(Refusal::NoMemory) => Err(Line::NoMemory),
+        Err(Refusal::NotJson) => Err(Message::NotJson),
+        Err(Refusal::Shape { path }) => Err(Message::Shape(path)),
+        Err(Refusal::Limit { which }) => Err(Message::Limit(which)),
+        Err(Refusal::NoMemory) => Err(Message::NoMemory),
     }
 }

@@ -15,8 +15,8 @@ use Rattle.outside.specs.Reading.{longest_source}
 use Rattle.outside.specs.Words.{command_of, line_status, reads}
 use Rattle.outside.specs.declared.commands.Command.{Command}
 use Rattle.outside.specs.declared.commands.Command.TheVariants as command
-use Rattle.outside.specs.declared.line.Line.{Line}
-use Rattle.outside.specs.declared.line.Line.TheVariants as line
+use Rattle.outside.specs.declared.message.Message.{Message}
+use Rattle.outside.specs.declared.message.Message.TheVariants as line
 use Rattle.outside.specs.declared.scripts.Demand.{Demand}
 use Rattle.outside.specs.declared.scripts.Demand.TheVariants as demand
 use Rattle.script_run.specs.Load.{load_script}
@@ -86,7 +86,7 @@ module _ (d : Demand) (input : Input) (handed : ℕ) (bytes : List ℕ) (has : i
   not-long given long gave = let short : length bytes ≤ longest_source = told-short given gave in omega (arith, short, long)
 
   -- of bytes that are too long no line tells but that they are, or that there was no memory
-  long-line : AreTooLong bytes → (l : Line) → CausesOfReading d l input handed → (line_status l ≡ 7) ⊎ (line_status l ≡ 6)
+  long-line : AreTooLong bytes → (l : Message) → CausesOfReading d l input handed → (line_status l ≡ 7) ⊎ (line_status l ≡ 6)
   long-line long line.Usage cause = absurd cause
   long-line long line.NotJson cause = absurd (not-long cause.bytes long cause.gave)
   long-line long (line.Shape path) cause = absurd (not-long cause.bytes long cause.gave)
@@ -107,7 +107,7 @@ module _ (d : Demand) (input : Input) (handed : ℕ) (bytes : List ℕ) (has : i
       omega (arith, long, short)
 
   -- of bytes that are refused no line tells but that they are, or that there was no memory
-  bad-line : AreRefused d bytes handed → (l : Line) → CausesOfReading d l input handed → (line_status l ≡ 3) ⊎ (line_status l ≡ 6)
+  bad-line : AreRefused d bytes handed → (l : Message) → CausesOfReading d l input handed → (line_status l ≡ 3) ⊎ (line_status l ≡ 6)
   bad-line bad line.Usage cause = absurd cause
   bad-line bad line.NotJson cause = inl refl
   bad-line bad (line.Shape path) cause = inl refl
@@ -122,7 +122,7 @@ module _ (d : Demand) (input : Input) (handed : ℕ) (bytes : List ℕ) (has : i
   bad-run bad s gave enough met = no-refused d bytes handed bad s (told-script s gave) enough met
 
   -- of a script that can be run no line tells but that there was no memory
-  memory-alone : AreRunnable d bytes handed → (l : Line) → CausesOfReading d l input handed → line_status l ≡ 6
+  memory-alone : AreRunnable d bytes handed → (l : Message) → CausesOfReading d l input handed → line_status l ≡ 6
   memory-alone fit line.Usage cause = absurd cause
   memory-alone fit line.NotJson cause = absurd (no-json bytes fit.script fit.is_script (told-json cause.bytes cause.gave cause.is_no_json))
   memory-alone fit (line.Shape path) cause =
@@ -144,7 +144,7 @@ module _ (d : Demand) (input : Input) (handed : ℕ) (bytes : List ℕ) (has : i
   memory-alone fit line.TooLong cause = absurd (long-told cause fit.short)
 
 -- of a load no line tells but that it is refused, or that there was no memory
-pub load-line : (d : Demand) (l : Line) (s : Script) (handed : ℕ) → CausesOfLoad d l s handed → (line_status l ≡ 3) ⊎ (line_status l ≡ 6)
+pub load-line : (d : Demand) (l : Message) (s : Script) (handed : ℕ) → CausesOfLoad d l s handed → (line_status l ≡ 3) ⊎ (line_status l ≡ 6)
 load-line demand.Schedule l s handed cause = let is : line_status l ≡ 3 = ap line_status cause in inl is
 load-line demand.Nothing line.Usage s handed cause = absurd cause
 load-line demand.Nothing line.NotJson s handed cause = absurd cause
@@ -157,7 +157,7 @@ load-line demand.Nothing line.ReadFault s handed cause = absurd cause
 load-line demand.Nothing line.TooLong s handed cause = absurd cause
 
 -- of a load that can be run no line tells but that there was no memory
-load-memory : (d : Demand) (l : Line) (n : ℕ) (handed : ℕ) → is_met d (load_script n) ≡ true → length (load_script n).addons ≤ handed
+load-memory : (d : Demand) (l : Message) (n : ℕ) (handed : ℕ) → is_met d (load_script n) ≡ true → length (load_script n).addons ≤ handed
     → CausesOfLoad d l (load_script n) handed → line_status l ≡ 6
 load-memory demand.Schedule l n handed met enough cause = cc
 load-memory demand.Nothing line.Usage n handed met enough cause = absurd cause
@@ -171,7 +171,7 @@ load-memory demand.Nothing line.ReadFault n handed met enough cause = absurd cau
 load-memory demand.Nothing line.TooLong n handed met enough cause = absurd cause
 
 -- the cause of a line, by the command that the words ask for
-asked-cause : (d : Demand) (l : Line) (words : List (List ℕ)) (input : Input) (handed : ℕ) (c : Command) → command_of words ≡ Some c
+asked-cause : (d : Demand) (l : Message) (words : List (List ℕ)) (input : Input) (handed : ℕ) (c : Command) → command_of words ≡ Some c
     → Causes d l (command_of words) input handed → Causes d l (Some c) input handed
 asked-cause d l words input handed c asked cause = subst (λ (o : Option Command). Causes d l o input handed) asked cause
 
@@ -182,7 +182,7 @@ one-command words b c eb ec = let same : Some b ≡ Some c = sym eb ∙ ec in cc
 -- where the words ask for a command, and the source's bytes are told where it reads them
 module _ (d : Demand) (words : List (List ℕ)) (input : Input) (handed : ℕ) where
   -- of bytes that are too long no line tells but that they are, or that there was no memory
-  pub too-long-line : (c : Command) (bytes : List ℕ) → IsAskedFor words input c bytes → IsTooLong c bytes → (l : Line)
+  pub too-long-line : (c : Command) (bytes : List ℕ) → IsAskedFor words input c bytes → IsTooLong c bytes → (l : Message)
       → Causes d l (command_of words) input handed → (line_status l ≡ 7) ⊎ (line_status l ≡ 6)
   too-long-line c bytes r long l cause = by c r.asked r.told r.readable long (asked-cause d l words input handed c r.asked cause)
     where
@@ -194,7 +194,7 @@ module _ (d : Demand) (words : List (List ℕ)) (input : Input) (handed : ℕ) w
       by (command.Load n) asked told readable long cause = let no : true ≡ false = sym long.0 in cc
 
   -- of a command that is refused no line tells but that it is, or that there was no memory
-  pub refused-line : (c : Command) (bytes : List ℕ) → IsAskedFor words input c bytes → IsRefused d c bytes handed → (l : Line)
+  pub refused-line : (c : Command) (bytes : List ℕ) → IsAskedFor words input c bytes → IsRefused d c bytes handed → (l : Message)
       → Causes d l (command_of words) input handed → (line_status l ≡ 3) ⊎ (line_status l ≡ 6)
   refused-line c bytes r bad l cause = by c r.told r.readable bad (asked-cause d l words input handed c r.asked cause)
     where
@@ -206,7 +206,7 @@ module _ (d : Demand) (words : List (List ℕ)) (input : Input) (handed : ℕ) w
       by (command.Load n) told readable bad cause = load-line d l (load_script n) handed cause
 
   -- of a command that can be run no line tells but that there was no memory
-  pub only-memory : (c : Command) (bytes : List ℕ) → IsAskedFor words input c bytes → IsRunnable d c bytes handed → (l : Line)
+  pub only-memory : (c : Command) (bytes : List ℕ) → IsAskedFor words input c bytes → IsRunnable d c bytes handed → (l : Message)
       → Causes d l (command_of words) input handed → line_status l ≡ 6
   only-memory c bytes r fit l cause = by c r.told r.readable fit (asked-cause d l words input handed c r.asked cause)
     where

@@ -10,8 +10,8 @@ use Rattle.outside.specs.Words.{command_of, line_status}
 use Rattle.outside.specs.Written.{text_written, IsCounted, IsStatus, IsRunStatus, WroteOutcome, WroteText}
 use Rattle.outside.specs.declared.commands.Command.{Command}
 use Rattle.outside.specs.declared.commands.Command.TheVariants as command
-use Rattle.outside.specs.declared.line.Line.{Line}
-use Rattle.outside.specs.declared.line.Line.TheVariants as line
+use Rattle.outside.specs.declared.message.Message.{Message}
+use Rattle.outside.specs.declared.message.Message.TheVariants as line
 use Rattle.outside.specs.declared.scripts.Demand.{Demand}
 use Rattle.script_run.specs.Load.{load_script}
 use Rattle.script_run.specs.Runs.{Handed, HasRun}
@@ -20,7 +20,7 @@ use Rattle.script_host.proofs.Hosts.{line-known, refused-of, fault-told}
 use Rattle.script_host.proofs.Complete.{too-long-line, too-long-run, refused-line, refused-run, only-memory, load-line}
 
 -- no line has a status of a run
-not-run : (l : Line) → IsRunStatus (line_status l) → ⊥
+not-run : (l : Message) → IsRunStatus (line_status l) → ⊥
 not-run line.Usage (inl e) = omega (arith, e)
 not-run line.Usage (inr e) = omega (arith, e)
 not-run line.NotJson (inl e) = omega (arith, e)
@@ -42,7 +42,7 @@ not-run line.TooLong (inr e) = omega (arith, e)
 
 -- of a source that is read a line tells no usage, a fault with 4 and too many bytes with 7
 module _ (d : Demand) (input : Input) (handed : ℕ) where
-  reading-used : (l : Line) → CausesOfReading d l input handed → line_status l ≡ 2 → ⊥
+  reading-used : (l : Message) → CausesOfReading d l input handed → line_status l ≡ 2 → ⊥
   reading-used line.Usage cause e = absurd cause
   reading-used line.NotJson cause e = omega (arith, e)
   reading-used (line.Shape path) cause e = omega (arith, e)
@@ -53,7 +53,7 @@ module _ (d : Demand) (input : Input) (handed : ℕ) where
   reading-used line.ReadFault cause e = omega (arith, e)
   reading-used line.TooLong cause e = omega (arith, e)
 
-  reading-fault : (l : Line) → CausesOfReading d l input handed → line_status l ≡ 4 → HasRisen input.faults input.faults_after
+  reading-fault : (l : Message) → CausesOfReading d l input handed → line_status l ≡ 4 → HasRisen input.faults input.faults_after
   reading-fault line.Usage cause e = absurd cause
   reading-fault line.NotJson cause e = absurd (omega (arith, e))
   reading-fault (line.Shape path) cause e = absurd (omega (arith, e))
@@ -64,7 +64,7 @@ module _ (d : Demand) (input : Input) (handed : ℕ) where
   reading-fault line.ReadFault cause e = cause
   reading-fault line.TooLong cause e = absurd (omega (arith, e))
 
-  reading-long : (l : Line) → CausesOfReading d l input handed → line_status l ≡ 7 → GaveTooMuch input
+  reading-long : (l : Message) → CausesOfReading d l input handed → line_status l ≡ 7 → GaveTooMuch input
   reading-long line.Usage cause e = absurd cause
   reading-long line.NotJson cause e = absurd (omega (arith, e))
   reading-long (line.Shape path) cause e = absurd (omega (arith, e))
@@ -76,7 +76,7 @@ module _ (d : Demand) (input : Input) (handed : ℕ) where
   reading-long line.TooLong cause e = cause
 
   -- of a load a line has the status 3 or 6
-  load-status : (l : Line) (n k : ℕ) → CausesOfLoad d l (load_script n) handed → line_status l ≡ k → (k ≡ 3) ⊎ (k ≡ 6)
+  load-status : (l : Message) (n k : ℕ) → CausesOfLoad d l (load_script n) handed → line_status l ≡ k → (k ≡ 3) ⊎ (k ≡ 6)
   load-status l n k cause e = by (load-line d l (load_script n) handed cause)
     where
       by : (line_status l ≡ 3) ⊎ (line_status l ≡ 6) → (k ≡ 3) ⊎ (k ≡ 6)
@@ -88,22 +88,22 @@ module _ (d : Demand) (input : Input) (handed : ℕ) where
   neither k a b (inr e) = b (sym e)
 
   -- the same, by what the words ask for
-  used : (l : Line) (o : Option Command) → Causes d l o input handed → line_status l ≡ 2 → o ≡ None
+  used : (l : Message) (o : Option Command) → Causes d l o input handed → line_status l ≡ 2 → o ≡ None
   used l None cause e = refl
   used l (Some command.Run) cause e = absurd (reading-used l cause e)
   used l (Some command.Summary) cause e = absurd (reading-used l cause e)
   used l (Some (command.Load n)) cause e = absurd (neither 2 (λ x. omega (arith, x)) (λ x. omega (arith, x)) (load-status l n 2 cause e))
 
-  unused : (l : Line) (o : Option Command) → Causes d l o input handed → o ≡ None → line_status l ≡ 2
+  unused : (l : Message) (o : Option Command) → Causes d l o input handed → o ≡ None → line_status l ≡ 2
   unused l o cause e = let P : Option Command → Type 0 = λ x. Causes d l x input handed in ap line_status (subst P e cause)
 
-  faulty : (l : Line) (o : Option Command) → Causes d l o input handed → line_status l ≡ 4 → HasRisen input.faults input.faults_after
+  faulty : (l : Message) (o : Option Command) → Causes d l o input handed → line_status l ≡ 4 → HasRisen input.faults input.faults_after
   faulty l None cause e = let no : 2 ≡ 4 = sym (ap line_status cause) ∙ e in absurd (omega (arith, no))
   faulty l (Some command.Run) cause e = reading-fault l cause e
   faulty l (Some command.Summary) cause e = reading-fault l cause e
   faulty l (Some (command.Load n)) cause e = absurd (neither 4 (λ x. omega (arith, x)) (λ x. omega (arith, x)) (load-status l n 4 cause e))
 
-  long : (l : Line) (o : Option Command) → Causes d l o input handed → line_status l ≡ 7 → GaveTooMuch input
+  long : (l : Message) (o : Option Command) → Causes d l o input handed → line_status l ≡ 7 → GaveTooMuch input
   long l None cause e = let no : 2 ≡ 7 = sym (ap line_status cause) ∙ e in absurd (omega (arith, no))
   long l (Some command.Run) cause e = reading-long l cause e
   long l (Some command.Summary) cause e = reading-long l cause e
@@ -121,7 +121,7 @@ run-known status (inr e) = subst IsStatus (sym e) refl
 -- WHAT IT SAYS
 module _ (d : Demand) (words : List (List ℕ)) (input : Input) (output : Output) (before : Handed) (handed : ℕ) (left : Record) (after : Handed) (status : ℕ) where
   -- of the status, its cause and the faults
-  pub concluded : (r : Result (Command × List (List ℕ)) Line) → RanOrRefused d words input before handed left after r → WroteOutcome r left output status
+  pub concluded : (r : Result (Command × List (List ℕ)) Message) → RanOrRefused d words input before handed left after r → WroteOutcome r left output status
       → ((r ≡ Err line.ReadFault → ⊥) → input.faults_after ≡ input.faults) → Concluded d words input output handed status
   concluded (Ok made) is wrote counted = record {
     known = run-known status wrote.run;
@@ -158,7 +158,7 @@ module _ (d : Demand) (words : List (List ℕ)) (input : Input) (output : Output
       }
 
   -- of the run, and of the text that was written of it
-  pub ran-so : (r : Result (Command × List (List ℕ)) Line) → RanOrRefused d words input before handed left after r → WroteOutcome r left output status
+  pub ran-so : (r : Result (Command × List (List ℕ)) Message) → RanOrRefused d words input before handed left after r → WroteOutcome r left output status
       → IsRunStatus status → (c : Command) × (s : Script) × (command_of words ≡ Some c) × IsScriptOf c input s × (is_met d s ≡ true) × HasRun s before left after
       × WroteText (status == 0) output (text_written c s.texts left)
   ran-so (Ok made) is wrote _ =
@@ -167,6 +167,6 @@ module _ (d : Demand) (words : List (List ℕ)) (input : Input) (output : Output
   ran-so (Err l) cause wrote run = absurd (not-run l (subst IsRunStatus wrote.status_is run))
 
   -- the lists of a run can be written
-  pub counted-of : (r : Result (Command × List (List ℕ)) Line) → RanOrRefused d words input before handed left after r → OnOk r (IsCounted left)
+  pub counted-of : (r : Result (Command × List (List ℕ)) Message) → RanOrRefused d words input before handed left after r → OnOk r (IsCounted left)
   counted-of (Ok made) is = record { rises = is.run.run.rises; journal = is.run.journal; history = is.run.history }
   counted-of (Err l) cause = tt

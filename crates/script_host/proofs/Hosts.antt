@@ -11,15 +11,15 @@ use Rattle.outside.specs.Words.{line_status}
 use Rattle.outside.specs.Written.{IsStatus}
 use Rattle.outside.specs.declared.commands.Command.{Command}
 use Rattle.outside.specs.declared.commands.Command.TheVariants as command
-use Rattle.outside.specs.declared.line.Line.{Line}
-use Rattle.outside.specs.declared.line.Line.TheVariants as line
+use Rattle.outside.specs.declared.message.Message.{Message}
+use Rattle.outside.specs.declared.message.Message.TheVariants as line
 use Rattle.outside.specs.declared.scripts.Demand.{Demand}
 use Rattle.outside.specs.declared.scripts.Demand.TheVariants as demand
 use Rattle.script_run.specs.Load.{load_script}
 use Rattle.script_host.specs.Host.{HasTooManyAddons, LacksSchedule, AreRefused, CameRefused, Causes, CausesOfLoad}
 
 -- a line's status is one of the statuses
-pub line-known : (l : Line) → IsStatus (line_status l)
+pub line-known : (l : Message) → IsStatus (line_status l)
 line-known line.Usage = refl
 line-known line.NotJson = refl
 line-known (line.Shape path) = refl
@@ -42,7 +42,7 @@ refused : (d : Demand) (input : Input) (bytes : List ℕ) (handed : ℕ) → Gav
 refused d input bytes handed gave why = record { bytes = bytes; gave = gave; are_refused = record { short = gave.within; why = why } }
 
 -- a line with the status of a refusal has a refusal as its cause: where the source was read
-read-refused : (d : Demand) (l : Line) (input : Input) (handed : ℕ) → CausesOfReading d l input handed → line_status l ≡ 3 → GaveRefused d input handed
+read-refused : (d : Demand) (l : Message) (input : Input) (handed : ℕ) → CausesOfReading d l input handed → line_status l ≡ 3 → GaveRefused d input handed
 read-refused d line.Usage input handed cause e = absurd cause
 read-refused d line.NotJson input handed cause e = refused d input cause.bytes handed cause.gave (inl cause.is_no_json)
 read-refused d (line.Shape path) input handed cause e =
@@ -60,7 +60,7 @@ read-refused d line.ReadFault input handed cause e = absurd (omega arith)
 read-refused d line.TooLong input handed cause e = absurd (omega arith)
 
 -- and where the load script was to run
-load-refused : (d : Demand) (l : Line) (n handed : ℕ) → CausesOfLoad d l (load_script n) handed → line_status l ≡ 3
+load-refused : (d : Demand) (l : Message) (n handed : ℕ) → CausesOfLoad d l (load_script n) handed → line_status l ≡ 3
     → (is_met d (load_script n) ≡ false) ⊎ (handed < length (load_script n).addons)
 load-refused demand.Schedule l n handed cause e = inl refl
 load-refused demand.Nothing line.Usage n handed cause e = absurd cause
@@ -74,7 +74,7 @@ load-refused demand.Nothing line.ReadFault n handed cause e = absurd cause
 load-refused demand.Nothing line.TooLong n handed cause e = absurd cause
 
 -- a line with the status of a refusal stands where the words ask for a command that is refused
-pub refused-of : (d : Demand) (l : Line) (o : Option Command) (input : Input) (handed : ℕ)
+pub refused-of : (d : Demand) (l : Message) (o : Option Command) (input : Input) (handed : ℕ)
     → Causes d l o input handed → line_status l ≡ 3 → (c : Command) × (o ≡ Some c) × CameRefused d c input handed
 refused-of d l None input handed cause e = let no : 2 ≡ 3 = sym (ap line_status cause) ∙ e in absurd (omega (arith, no))
 refused-of d l (Some command.Run) input handed cause e =
@@ -87,7 +87,7 @@ refused-of d l (Some (command.Load n)) input handed cause e =
     (command.Load n, refl, record { bytes = []; gave = λ reading. (let no : true ≡ false = sym reading in cc); is_refused = load-refused d l n handed cause e })
 
 -- where a fault of the source was counted, the line tells it
-pub fault-told : (l : Line) (faults risen : ℕ) → ((l ≡ line.ReadFault → ⊥) → risen ≡ faults) → (risen ≡ faults → ⊥) → line_status l ≡ 4
+pub fault-told : (l : Message) (faults risen : ℕ) → ((l ≡ line.ReadFault → ⊥) → risen ≡ faults) → (risen ≡ faults → ⊥) → line_status l ≡ 4
 fault-told line.Usage faults risen same differs = absurd (differs (same (λ e. cc)))
 fault-told line.NotJson faults risen same differs = absurd (differs (same (λ e. cc)))
 fault-told (line.Shape path) faults risen same differs = absurd (differs (same (λ e. cc)))

@@ -13,8 +13,8 @@ use Rattle.outside.specs.Words.{command_of, reads, line_status, line_text}
 use Rattle.outside.specs.Written.{IsStatus, IsRunStatus, WroteLine}
 use Rattle.outside.specs.declared.commands.Command.{Command}
 use Rattle.outside.specs.declared.commands.Command.TheVariants as command
-use Rattle.outside.specs.declared.line.Line.{Line}
-use Rattle.outside.specs.declared.line.Line.TheVariants as line
+use Rattle.outside.specs.declared.message.Message.{Message}
+use Rattle.outside.specs.declared.message.Message.TheVariants as line
 use Rattle.outside.specs.declared.scripts.Demand.{Demand}
 use Rattle.outside.specs.declared.scripts.Demand.TheVariants as demand
 use Rattle.script_run.specs.Load.{load_script}
@@ -38,8 +38,8 @@ pub record LacksSchedule (d : Demand) (bytes : List ℕ) (handed : ℕ) : Type 0
   pub enough : length script.addons ≤ handed
   pub unmet : is_met d script ≡ false
 
--- the bytes are not too long, and they are no JSON text, or one in which something is wrong, or a script with too many addons, or one without the schedule that is
--- demanded
+-- the bytes are not too long, and they are no JSON text, or one in which something is wrong, or a script with too many addons, or one without the schedule that
+-- is demanded
 pub record AreRefused (d : Demand) (bytes : List ℕ) (handed : ℕ) : Type 0 where
   pub short : length bytes ≤ longest_source
   pub why : IsNoJson bytes ⊎ (((w : Wrong) × IsWrong bytes w) ⊎ (HasTooManyAddons bytes handed ⊎ LacksSchedule d bytes handed))
@@ -83,14 +83,14 @@ pub record CameRefused (d : Demand) (c : Command) (input : Input) (handed : ℕ)
 
 -- THE REFUSALS
 -- why it does where the load script is to run: where a schedule is demanded, always for want of one
-abbrev pub CausesOfLoad : Demand → Line → Script → ℕ → Type 0
+abbrev pub CausesOfLoad : Demand → Message → Script → ℕ → Type 0
 CausesOfLoad demand.Schedule l script handed = l ≡ line.Schedule
 CausesOfLoad demand.Nothing line.TooManyAddons script handed = handed < length script.addons
 CausesOfLoad demand.Nothing line.NoMemory script handed = ⊤
 CausesOfLoad demand.Nothing _ script handed = ⊥
 
 -- why it does, by what the words ask for
-abbrev pub Causes : Demand → Line → Option Command → Input → ℕ → Type 0
+abbrev pub Causes : Demand → Message → Option Command → Input → ℕ → Type 0
 Causes d l None input handed = l ≡ line.Usage
 Causes d l (Some command.Run) input handed = CausesOfReading d l input handed
 Causes d l (Some command.Summary) input handed = CausesOfReading d l input handed
@@ -107,7 +107,7 @@ pub record IsAskedFor (words : List (List ℕ)) (input : Input) (c : Command) (b
 pub record Concluded (d : Demand) (words : List (List ℕ)) (input : Input) (output : Output) (handed : ℕ) (status : ℕ) : Type 0 where
   pub known : IsStatus status
   -- at every other status than those of a run a line has its cause, and stands in place of the text
-  pub refused : ¬ IsRunStatus status → (l : Line) × (status ≡ line_status l) × Causes d l (command_of words) input handed × WroteLine output (line_text l)
+  pub refused : ¬ IsRunStatus status → (l : Message) × (status ≡ line_status l) × Causes d l (command_of words) input handed × WroteLine output (line_text l)
   -- the same, status by status
   pub usage : (status ≡ 2) ↔ (command_of words ≡ None)
   pub no_script : status ≡ 3 → (c : Command) × (command_of words ≡ Some c) × CameRefused d c input handed
@@ -138,7 +138,7 @@ pub record IsLoaded (d : Demand) (number handed : ℕ) (script : Script) : Type 
   pub met : is_met d script ≡ true
 
 -- it is, or why there is none
-abbrev pub LoadedOrRefused : Demand → ℕ → ℕ → Result Script Line → Type 0
+abbrev pub LoadedOrRefused : Demand → ℕ → ℕ → Result Script Message → Type 0
 LoadedOrRefused d number handed (Ok script) = IsLoaded d number handed script
 LoadedOrRefused d number handed (Err l) = CausesOfLoad d l (load_script number) handed
 
@@ -151,7 +151,7 @@ pub record IsChosen (d : Demand) (words : List (List ℕ)) (input : Input) (hand
   pub met : is_met d script ≡ true
 
 -- a command and its script, or why there is none
-abbrev pub Chose : Demand → List (List ℕ) → Input → ℕ → Result (Command × Script) Line → Type 0
+abbrev pub Chose : Demand → List (List ℕ) → Input → ℕ → Result (Command × Script) Message → Type 0
 Chose d words input handed (Ok chosen) = IsChosen d words input handed chosen.0 chosen.1
 Chose d words input handed (Err l) = Causes d l (command_of words) input handed
 
@@ -163,6 +163,6 @@ pub record HasRunChosen (d : Demand) (words : List (List ℕ)) (input : Input) (
   pub texts_are : texts ≡ script.texts
 
 -- it has, or why there was no run
-abbrev pub RanOrRefused : Demand → List (List ℕ) → Input → Handed → ℕ → Record → Handed → Result (Command × List (List ℕ)) Line → Type 0
+abbrev pub RanOrRefused : Demand → List (List ℕ) → Input → Handed → ℕ → Record → Handed → Result (Command × List (List ℕ)) Message → Type 0
 RanOrRefused d words input before handed left after (Ok ran) = HasRunChosen d words input before handed left after ran.0 ran.1
 RanOrRefused d words input before handed left after (Err l) = Causes d l (command_of words) input handed

@@ -4,7 +4,7 @@ ghost use Rattle.outside.specs.Ends.{input_of};
 ghost use Rattle.script_host.specs.Host.{Chose, LoadedOrRefused, ReadAsAsked};
 
 use napi_types::{Script, Source, Text};
-use outside::{Command, Demand, Line, command_of, script_from_source};
+use outside::{Command, Demand, Message, command_of, script_from_source};
 use script_run::load_script;
 use std::alloc::Global;
 
@@ -14,13 +14,13 @@ fn load_script_if_allowed(
     demand: Demand,
     number: u32,
     handed: usize,
-) -> Result<Script, Line>
+) -> Result<Script, Message>
     ensures { LoadedOrRefused demand number handed result }
 {
     match demand {
-        Demand::Schedule => Err(Line::Schedule),
-        Demand::Nothing if handed == 0 => Err(Line::TooManyAddons),
-        Demand::Nothing => load_script(alloc, number).map_err(|_| Line::NoMemory),
+        Demand::Schedule => Err(Message::Schedule),
+        Demand::Nothing if handed == 0 => Err(Message::TooManyAddons),
+        Demand::Nothing => load_script(alloc, number).map_err(|_| Message::NoMemory),
     }
 }
 
@@ -32,15 +32,15 @@ pub(crate) fn command_and_script<S: Source>(
     words: &[Text],
     source: &mut S,
     handed: usize,
-) -> Result<(Command, Script), Line>
+) -> Result<(Command, Script), Message>
     ensures answer { let input = input_of S.left S.faults source.old source.new in
         Chose demand words.now input handed result }
     ensures source { let input = input_of S.left S.faults source.old source.new in
         ReadAsAsked words.now input }
-    ensures counted { result ≢ Err Line.ReadFault → S.faults source.new ≡ S.faults source.old }
+    ensures counted { result ≢ Err Message.ReadFault → S.faults source.new ≡ S.faults source.old }
 {
     let Some(command) = command_of(words) else {
-        return Err(Line::Usage);
+        return Err(Message::Usage);
     };
     match command {
         Command::Run | Command::Summary => {

@@ -10,7 +10,7 @@ ghost use Rattle.script_host.specs.Host.{Concluded, IsScriptOf, RanOrRefused, Re
 use crate::choosing::command_and_script;
 use addon_trait::Addon;
 use napi_types::{Gate, NoMemory, Record, Script, Sink, Source, Text, Texts};
-use outside::{Command, Demand, Line, write_outcome};
+use outside::{Command, Demand, Message, write_outcome};
 use script_run::{in_turns, on_threads};
 use std::alloc::Global;
 use std::marker::Brand;
@@ -27,7 +27,7 @@ fn run_on_threads<R: Threads + Wait + Sync, S: Source, G: Gate>(
     source: &mut S,
     addons: &mut Vec<Box<dyn Addon>>,
     left: &mut Record,
-) -> Result<(Command, Texts), Line>
+) -> Result<(Command, Texts), Message>
     ensures ran { let input = input_of S.left S.faults source.old source.new in
         let before = handed_in (λ b. plan b) (λ b. regs b) (λ b. seen b) addons.old.items in
         let after = handed_in (λ b. plan b) (λ b. regs b) (λ b. seen b) addons.new.items in
@@ -36,7 +36,7 @@ fn run_on_threads<R: Threads + Wait + Sync, S: Source, G: Gate>(
     ensures addons { OnErr result (addons.new.items ≡ addons.old.items) }
     ensures source { let input = input_of S.left S.faults source.old source.new in
         ReadAsAsked words.now input }
-    ensures counted { result ≢ Err Line.ReadFault → S.faults source.new ≡ S.faults source.old }
+    ensures counted { result ≢ Err Message.ReadFault → S.faults source.new ≡ S.faults source.old }
 {
     let (command, script) = command_and_script(
         alloc,
@@ -47,7 +47,7 @@ fn run_on_threads<R: Threads + Wait + Sync, S: Source, G: Gate>(
     )?;
     match on_threads::<Brand, R, G>(rt, gate, alloc, script, addons, left) {
         Ok(texts) => Ok((command, texts)),
-        Err(NoMemory) => Err(Line::NoMemory),
+        Err(NoMemory) => Err(Message::NoMemory),
     }
 }
 
@@ -58,7 +58,7 @@ fn run_in_turns<S: Source>(
     source: &mut S,
     addons: &mut Vec<Box<dyn Addon>>,
     left: &mut Record,
-) -> Result<(Command, Texts), Line>
+) -> Result<(Command, Texts), Message>
     ensures ran { let input = input_of S.left S.faults source.old source.new in
         let before = handed_in (λ b. plan b) (λ b. regs b) (λ b. seen b) addons.old.items in
         let after = handed_in (λ b. plan b) (λ b. regs b) (λ b. seen b) addons.new.items in
@@ -67,7 +67,7 @@ fn run_in_turns<S: Source>(
     ensures addons { OnErr result (addons.new.items ≡ addons.old.items) }
     ensures source { let input = input_of S.left S.faults source.old source.new in
         ReadAsAsked words.now input }
-    ensures counted { result ≢ Err Line.ReadFault → S.faults source.new ≡ S.faults source.old }
+    ensures counted { result ≢ Err Message.ReadFault → S.faults source.new ≡ S.faults source.old }
 {
     let (command, script) = command_and_script(
         alloc,
@@ -78,7 +78,7 @@ fn run_in_turns<S: Source>(
     )?;
     match in_turns::<Brand>(alloc, script, addons, left) {
         Ok(texts) => Ok((command, texts)),
-        Err(NoMemory) => Err(Line::NoMemory),
+        Err(NoMemory) => Err(Message::NoMemory),
     }
 }
 

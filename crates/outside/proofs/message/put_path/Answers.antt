@@ -1,6 +1,6 @@
 use Rattle.std.proofs.Common.{codes}
 use Rattle.outside.proofs.Pieces.{at-err, cut-first, cut-second, cut-third, three-known}
-use Rattle.outside.proofs.line.put_path.Goals as goal
+use Rattle.outside.proofs.message.put_path.Goals as goal
 
 pub returns-in_err-put_text-clause-err : goal.returns-in_err-put_text-clause-err
 returns-in_err-put_text-clause-err g c = at-err _ (cut-first _ _ (codes "refused shape ") c.args.path.now (codes "\n") c.in_err-put_text.ensures.err)

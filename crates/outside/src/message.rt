@@ -9,7 +9,7 @@ use trace_text::put_all;
 
 /// A line that the program writes in place of a text.
 #[derive(Drop)]
-pub enum Line {
+pub enum Message {
     /// The words are no command line.
     Usage,
     /// The bytes are no JSON text.
@@ -44,7 +44,7 @@ fn limit_line(which: LimitName) -> &'static str
     }
 }
 
-impl Line {
+impl Message {
     /// Writes the line, with its newline.
     pub(crate) fn write<K: Sink>(&self, sink: &mut K) -> Result<(), Failed>
         ensures ok { OnOk result (K.taken sink.new ≡ append_known (K.taken sink.old) (line_text self.now)) }
@@ -53,15 +53,15 @@ impl Line {
         ensures faults { K.faults sink.old ≤ K.faults sink.new }
     {
         match self {
-            Line::Shape(path) => put_path(sink, path),
-            Line::Limit(which) => put_text(sink, limit_line(*which)),
-            Line::Usage => put_text(sink, "usage: napi_host run | summary | load NUMBER\n"),
-            Line::NotJson => put_text(sink, "refused json\n"),
-            Line::TooManyAddons => put_text(sink, limit_line(LimitName::Addons)),
-            Line::Schedule => put_text(sink, "refused schedule\n"),
-            Line::NoMemory => put_text(sink, "out of memory\n"),
-            Line::ReadFault => put_text(sink, "read fault\n"),
-            Line::TooLong => put_text(sink, "refused length\n"),
+            Message::Shape(path) => put_path(sink, path),
+            Message::Limit(which) => put_text(sink, limit_line(*which)),
+            Message::Usage => put_text(sink, "usage: napi_host run | summary | load NUMBER\n"),
+            Message::NotJson => put_text(sink, "refused json\n"),
+            Message::TooManyAddons => put_text(sink, limit_line(LimitName::Addons)),
+            Message::Schedule => put_text(sink, "refused schedule\n"),
+            Message::NoMemory => put_text(sink, "out of memory\n"),
+            Message::ReadFault => put_text(sink, "read fault\n"),
+            Message::TooLong => put_text(sink, "refused length\n"),
         }
     }
 
@@ -70,15 +70,15 @@ impl Line {
         ensures { result ≡ line_status self.now }
     {
         match self {
-            Line::Usage => 2,
-            Line::NotJson
-            | Line::Shape(_)
-            | Line::Limit(_)
-            | Line::TooManyAddons
-            | Line::Schedule => 3,
-            Line::ReadFault => 4,
-            Line::NoMemory => 6,
-            Line::TooLong => 7,
+            Message::Usage => 2,
+            Message::NotJson
+            | Message::Shape(_)
+            | Message::Limit(_)
+            | Message::TooManyAddons
+            | Message::Schedule => 3,
+            Message::ReadFault => 4,
+            Message::NoMemory => 6,
+            Message::TooLong => 7,
         }
     }
 }
