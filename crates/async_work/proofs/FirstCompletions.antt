@@ -6,23 +6,26 @@ use Rattle.napi_types.specs.plain.Lists.{head}
 use Rattle.napi_types.specs.parts.Pool.{work_numbered, completion_info, first_completion}
 use Rattle.napi_types.specs.parts.Works.{Work, Outcome}
 use Rattle.napi_types.proofs.plain.Found.{IsRising}
-use Rattle.async_work.specs.KeptPool.{pool_of, IsKeptPool, StandsInLine, CameOutOnce}
-use Rattle.async_work.specs.Line.{InLine, CameOut, Done, outcome_of, has_ended, is_done_in_line, ended_at, line_work_at, line_stage_at}
+use Rattle.async_work.specs.KeptPool.{pool_of, IsKeptPool, StandsInQueue, CameOutOnce}
+use Rattle.async_work.specs.Queue.{NumberedWork, CameOut, Done, outcome_of, has_ended, is_done_in_queue, ended_at, queue_work_at, queue_stage_at}
 use Rattle.async_work.specs.WorkPlaces.{Placed}
 use Rattle.async_work.proofs.Linking.{ended-unfinished, first-ended, stage-of}
 use Rattle.async_work.proofs.StandingWorks.{numbered-at}
 
-module _ (places : List (HeldValue Placed)) (issued : List ℕ) (line : List InLine) (finished : List CameOut) (first created queued running : ℕ) (closing : Bool)
+module _ (places : List (HeldValue Placed)) (issued : List ℕ) (line : List NumberedWork) (finished : List CameOut) (first created queued running : ℕ)
+    (closing : Bool)
     (spare finished_places : ℕ) (rises : IsRising (λ h. h.number) places)
     (kept : IsKeptPool places issued line finished first created queued running closing spare finished_places) where
   completion-of : (o : CameOut) → ended_at line o.number ≡ true → is_some (work_numbered (pool_of places issued line finished closing) o.number) ≡ true
-  completion-of o ended = by (line_work_at line o.number) refl
+  completion-of o ended = by (queue_work_at line o.number) refl
     where
-      by : (e : Option InLine) → line_work_at line o.number ≡ e → is_some (work_numbered (pool_of places issued line finished closing) o.number) ≡ true
-      by None at = let no : false ≡ true = sym (ap (λ (w : Option InLine). has_ended (option_map_or (λ (x : InLine). x.stage) w Done)) at) ∙ ended in cc
+      by : (e : Option NumberedWork) → queue_work_at line o.number ≡ e → is_some (work_numbered (pool_of places issued line finished closing) o.number) ≡ true
+      by None at = let no : false ≡ true = sym (ap (λ (w : Option NumberedWork). has_ended (option_map_or (λ (x : NumberedWork). x.stage) w Done)) at)
+          ∙ ended in cc
       by (Some e) at =
-          let unfinished : is_done_in_line e.stage ≡ false = ap is_done_in_line (sym (stage-of line o.number e at)) ∙ ended-unfinished (line_stage_at line o.number) ended in
-          let stands : StandsInLine places o.number e = kept.linked.placed o.number e at unfinished in
+          let unfinished : is_done_in_queue e.stage ≡ false = ap is_done_in_queue (sym (stage-of line o.number e at)) ∙ ended-unfinished
+          (queue_stage_at line o.number) ended in
+          let stands : StandsInQueue places o.number e = kept.linked.placed o.number e at unfinished in
           ap is_some (numbered-at places issued line finished first created queued running closing spare finished_places kept o.number e rises at unfinished stands)
 
   pub completion-there : is_some (first_completion (pool_of places issued line finished closing)) ≡ not (length finished == 0)

@@ -1,4 +1,4 @@
--- Places, line and what came out go on standing for a pool.
+-- Places, queue and what came out go on standing for a pool.
 use Rattle.std.proofs.Common.{◌≡◌, ◌∙◌, ℕ, zero, suc, ◌+◌, ◌-◌, ◌^◌, ◌<◌, ◌≤◌, ◌==◌, Bool, true, false, not, cond, List, [], ◌∷◌, ◌++◌, length, filter, set, get_or, Option, Some, None, IfSome, is_some, option_map, ◌⊎◌, refl, ap, sym, subst, arith, length-append, inl, inr}
 use Rattle.std.specs.List.{count_by}
 use Rattle.std.specs.Option.{option_map_or, is_none}
@@ -10,8 +10,8 @@ use Rattle.napi_types.specs.plain.Lists.{found, has_number, with_record, with_nu
 use Rattle.napi_types.proofs.plain.Found.{IsRising, same-self, same-tells, apart-above}
 use Rattle.napi_types.proofs.plain.Maps.{filter_all}
 use Rattle.async_work.specs.WorkPlaces.{Placed, place_at, is_unqueued, with_place_number, with_number_at}
-use Rattle.async_work.specs.Line.{LineStage, Waits, Runs, Ended, Done, InLine, CameOut, waiting_job, runner, has_ended, is_done_in_line, with_stage, line_work_at, line_stage_at, waits, runner_at, ended_at, waiting_works, executions}
-use Rattle.async_work.specs.KeptPool.{KeepsJob, IsLine, CameOutOnce, IsKeptPool}
+use Rattle.async_work.specs.Queue.{QueueStage, Waits, Runs, Ended, Done, NumberedWork, CameOut, waiting_job, runner, has_ended, is_done_in_queue, with_stage, queue_work_at, queue_stage_at, waits, runner_at, ended_at, waiting_works, executions}
+use Rattle.async_work.specs.KeptPool.{KeepsJob, IsQueue, CameOutOnce, IsKeptPool}
 use Rattle.async_work.proofs.Ids.{Replaced, replaced-made, replaced-freed, replaced-numbered, held-at, none-held, new-absent, issued-made, issued-freed, issued-kept, length-issued}
 use Rattle.async_work.proofs.Mapped.{count-less, count-more, count-changed}
 use Rattle.async_work.proofs.Queueing.{Restaged, restaged, stage-restaged, stage-push, stage-past, waiting-same, waiting-less, waiting-more, waiting-none, waiting-first, has-waiting, length-less}
@@ -19,50 +19,50 @@ use Rattle.async_work.proofs.PoolExecutions.{AreApart, apart-less, apart-started
 use Rattle.async_work.proofs.Linking.{linked-created, linked-deleted, linked-queued, linked-restaged, out-created, out-deleted, out-queued, out-started, out-ended, out-completed, keeps-job, keeps-none, first-ended}
 
 -- STAGES
-pub record OnlyWaits (s : LineStage) : Type 0 where
+pub record OnlyWaits (s : QueueStage) : Type 0 where
   pub idle : runner s ≡ None
   pub lives : has_ended s ≡ false
-  pub unfinished : is_done_in_line s ≡ false
+  pub unfinished : is_done_in_queue s ≡ false
 
-pub only-waits : (s : LineStage) (job : JobSpec) → waiting_job s ≡ Some job → OnlyWaits s
+pub only-waits : (s : QueueStage) (job : JobSpec) → waiting_job s ≡ Some job → OnlyWaits s
 only-waits (Waits spec) job is = record { idle = refl; lives = refl; unfinished = refl }
 only-waits (Runs w) job is = let no : ⊥ = cc in absurd no
 only-waits Ended job is = let no : ⊥ = cc in absurd no
 only-waits Done job is = let no : ⊥ = cc in absurd no
 
-pub record OnlyRuns (s : LineStage) : Type 0 where
+pub record OnlyRuns (s : QueueStage) : Type 0 where
   pub started : waiting_job s ≡ None
   pub lives : has_ended s ≡ false
-  pub unfinished : is_done_in_line s ≡ false
+  pub unfinished : is_done_in_queue s ≡ false
 
-pub only-runs : (s : LineStage) (w : ℕ) → runner s ≡ Some w → OnlyRuns s
+pub only-runs : (s : QueueStage) (w : ℕ) → runner s ≡ Some w → OnlyRuns s
 only-runs (Waits spec) w is = let no : ⊥ = cc in absurd no
 only-runs (Runs v) w is = record { started = refl; lives = refl; unfinished = refl }
 only-runs Ended w is = let no : ⊥ = cc in absurd no
 only-runs Done w is = let no : ⊥ = cc in absurd no
 
-pub record OnlyEnded (s : LineStage) : Type 0 where
+pub record OnlyEnded (s : QueueStage) : Type 0 where
   pub started : waiting_job s ≡ None
   pub idle : runner s ≡ None
-  pub unfinished : is_done_in_line s ≡ false
+  pub unfinished : is_done_in_queue s ≡ false
 
-pub only-ended : (s : LineStage) → has_ended s ≡ true → OnlyEnded s
+pub only-ended : (s : QueueStage) → has_ended s ≡ true → OnlyEnded s
 only-ended (Waits spec) is = let no : ⊥ = cc in absurd no
 only-ended (Runs v) is = let no : ⊥ = cc in absurd no
 only-ended Ended is = record { started = refl; idle = refl; unfinished = refl }
 only-ended Done is = let no : ⊥ = cc in absurd no
 
--- a work of which something is known stands in line
-pub entry-live : (line : List InLine) (n : ℕ) → is_done_in_line (line_stage_at line n) ≡ false → (e : InLine) × (line_work_at line n ≡ Some e)
-entry-live line n unfinished = by (line_work_at line n) refl unfinished
+-- a work of which something is known stands in the queue
+pub entry-live : (line : List NumberedWork) (n : ℕ) → is_done_in_queue (queue_stage_at line n) ≡ false → (e : NumberedWork) × (queue_work_at line n ≡ Some e)
+entry-live line n unfinished = by (queue_work_at line n) refl unfinished
   where
-    by : (o : Option InLine) → line_work_at line n ≡ o → is_done_in_line (option_map_or (λ (e : InLine). e.stage) o Done) ≡ false
-        → (e : InLine) × (line_work_at line n ≡ Some e)
+    by : (o : Option NumberedWork) → queue_work_at line n ≡ o → is_done_in_queue (option_map_or (λ (e : NumberedWork). e.stage) o Done) ≡ false
+        → (e : NumberedWork) × (queue_work_at line n ≡ Some e)
     by None at told = let no : ⊥ = cc in absurd no
     by (Some e) at told = (e, at)
 
 -- one more that waits runs no more than those before
-pub runner-queued : (line : List InLine) (e : InLine) (job : JobSpec) → waiting_job e.stage ≡ Some job → (m : ℕ)
+pub runner-queued : (line : List NumberedWork) (e : NumberedWork) (job : JobSpec) → waiting_job e.stage ≡ Some job → (m : ℕ)
     → runner_at (line ++ e ∷ []) m ≡ runner_at line m
 runner-queued line e job waits_for m = stage-push runner line e m ∙ by (length line + 1 == m) refl
   where
@@ -72,7 +72,8 @@ runner-queued line e job waits_for m = stage-push runner line e m ∙ by (length
     by false same = refl
 
 -- ROOM
-module _ (places : List (HeldValue Placed)) (issued : List ℕ) (line : List InLine) (finished : List CameOut) (first created queued running : ℕ) (closing : Bool)
+module _ (places : List (HeldValue Placed)) (issued : List ℕ) (line : List NumberedWork) (finished : List CameOut) (first created queued running : ℕ)
+    (closing : Bool)
     (spare finished_places : ℕ)
     (kept : IsKeptPool places issued line finished first created queued running closing spare finished_places) where
   -- a work that was not queued is counted
@@ -87,7 +88,7 @@ module _ (places : List (HeldValue Placed)) (issued : List ℕ) (line : List InL
   pub room-to-queue : (id : ℕ) (p : Placed) → IsRising (λ h. h.number) places → place_at places id ≡ Some p → p.number ≡ None → 0 < spare
   room-to-queue id p rises is none =
       let some = created-some id p rises is none in
-      omega (arith, some, kept.room.line_room)
+      omega (arith, some, kept.room.queue_room)
 
   pub queued-some : (n : ℕ) → waits line n ≡ true → 1 ≤ queued
   queued-some n is = let less = length-less line n is in omega (arith, less, kept.room.queued_are)
@@ -99,9 +100,9 @@ module _ (places : List (HeldValue Placed)) (issued : List ℕ) (line : List InL
 
   pub running-some : (n w : ℕ) → runner_at line n ≡ Some w → 1 ≤ running
   running-some n w is =
-      let live = entry-live line n (only-runs (line_stage_at line n) w is).unfinished in
+      let live = entry-live line n (only-runs (queue_stage_at line n) w is).unfinished in
       let change = restaged line n live.0 Done live.1 in
-      let less = length-finished line (set line (n - 1) (with_stage Done live.0)) n w kept.in_line.apart is (stage-restaged line (set line (n - 1)
+      let less = length-finished line (set line (n - 1) (with_stage Done live.0)) n w kept.numbered_work.apart is (stage-restaged line (set line (n - 1)
       (with_stage Done live.0)) n live.0 Done change runner) in
       omega (arith, less, kept.room.running_are)
 
@@ -116,7 +117,7 @@ module _ (places : List (HeldValue Placed)) (issued : List ℕ) (line : List InL
   kept-more more_line more_finished a b = record {
     known = kept.known;
     linked = kept.linked;
-    in_line = kept.in_line;
+    numbered_work = kept.numbered_work;
     came_out = kept.came_out;
     room = record {
       created_are = kept.room.created_are;
@@ -124,7 +125,7 @@ module _ (places : List (HeldValue Placed)) (issued : List ℕ) (line : List InL
       numbers = kept.room.numbers;
       few = kept.room.few;
       running_are = kept.room.running_are;
-      line_room = omega (arith, kept.room.line_room, a);
+      queue_room = omega (arith, kept.room.queue_room, a);
       finished_room = omega (arith, kept.room.finished_room, b);
     };
     shut = kept.shut;
@@ -138,7 +139,7 @@ module _ (places : List (HeldValue Placed)) (issued : List ℕ) (line : List InL
   kept-created others id p more more_line more_finished rises few new is none held more_is a b = rw is (record {
     known = issued-made places (with_held id p places) issued id p change kept.known;
     linked = linked-created places (with_held id p places) line id p kept.linked absent change none held;
-    in_line = kept.in_line;
+    numbered_work = kept.numbered_work;
     came_out = out-created places (with_held id p places) line finished id p none change kept.came_out;
     room = record {
       created_are = omega (arith, kept.room.created_are, more_is, counted, counts);
@@ -146,7 +147,7 @@ module _ (places : List (HeldValue Placed)) (issued : List ℕ) (line : List InL
       numbers = omega (arith, kept.room.numbers, more_is, length-issued issued id new);
       few = omega (arith, length-issued issued id new, few);
       running_are = kept.room.running_are;
-      line_room = a;
+      queue_room = a;
       finished_room = b;
     };
     shut = kept.shut;
@@ -166,13 +167,13 @@ module _ (places : List (HeldValue Placed)) (issued : List ℕ) (line : List InL
 
   -- A WORK IS DELETED
   pub kept-deleted : (others : List (HeldValue Placed)) (id : ℕ) (p : Placed) (fewer : ℕ) → IsRising (λ h. h.number) places → others ≡ without_held id places
-      → place_at places id ≡ Some p → ((n : ℕ) → p.number ≡ Some n → is_done_in_line (line_stage_at line n) ≡ true)
+      → place_at places id ≡ Some p → ((n : ℕ) → p.number ≡ Some n → is_done_in_queue (queue_stage_at line n) ≡ true)
       → fewer + cond (is_none p.number) 1 0 ≡ created
       → IsKeptPool others issued line finished first fewer queued running closing spare finished_places
   kept-deleted others id p fewer rises same is done fewer_is = rw same (record {
     known = issued-freed places (without_held id places) issued id change kept.known;
     linked = linked-deleted places (without_held id places) line id p kept.linked is change done;
-    in_line = kept.in_line;
+    numbered_work = kept.numbered_work;
     came_out = out-deleted places (without_held id places) line finished id kept.came_out change;
     room = record {
       created_are = omega (arith, kept.room.created_are, fewer_is, counted);
@@ -180,7 +181,7 @@ module _ (places : List (HeldValue Placed)) (issued : List ℕ) (line : List InL
       numbers = omega (arith, kept.room.numbers, fewer_is);
       few = kept.room.few;
       running_are = kept.room.running_are;
-      line_room = omega (arith, kept.room.line_room, fewer_is);
+      queue_room = omega (arith, kept.room.queue_room, fewer_is);
       finished_room = omega (arith, kept.room.finished_room, fewer_is);
     };
     shut = kept.shut;
@@ -193,16 +194,17 @@ module _ (places : List (HeldValue Placed)) (issued : List ℕ) (line : List InL
       counted = count-less (λ (h : HeldValue Placed). h.number) is_unqueued id places (record { number = id; value = p }) rises (held-at places id p is)
 
   -- A WORK IS QUEUED
-  pub kept-queued : (others : List (HeldValue Placed)) (lines : List InLine) (id n fewer more left : ℕ) (p : Placed) (e : InLine) → IsRising (λ h. h.number) places
+  pub kept-queued : (others : List (HeldValue Placed)) (lines : List NumberedWork) (id n fewer more left : ℕ) (p : Placed) (e : NumberedWork) → IsRising
+      (λ h. h.number) places
       → others ≡ with_number_at id n places → lines ≡ line ++ e ∷ [] → closing ≡ false
       → n ≡ length line + 1 → place_at places id ≡ Some p → p.number ≡ None → e.id ≡ id → waiting_job e.stage ≡ Some p.spec → fewer ≡ created - 1 → more ≡ queued + 1 → left + 1 ≡ spare
       → IsKeptPool others issued lines finished first fewer more running closing left finished_places
   kept-queued others lines id n fewer more left p e rises places_are line_is still_open number is none its waits_for fewer_is more_is left_is = rw (places_are, line_is) (record {
     known = issued-kept places (with_number_at id n places) issued id p (with_place_number n p) is change kept.known;
     linked = linked-queued places (with_number_at id n places) line id n p e kept.linked number is none change its waits_for;
-    in_line = record {
-      apart = λ a b w here there. kept.in_line.apart a b w (sym (same_runner a) ∙ here) (sym (same_runner b) ∙ there);
-      within = omega (arith, longer, kept.in_line.within);
+    numbered_work = record {
+      apart = λ a b w here there. kept.numbered_work.apart a b w (sym (same_runner a) ∙ here) (sym (same_runner b) ∙ there);
+      within = omega (arith, longer, kept.numbered_work.within);
       passed = λ m before. still m before;
     };
     came_out = out-queued places (with_number_at id n places) line finished id n p e kept.came_out number change only.lives;
@@ -218,7 +220,7 @@ module _ (places : List (HeldValue Placed)) (issued : List ℕ) (line : List InL
       numbers = omega (arith, kept.room.numbers, longer, fewer_is, some);
       few = kept.room.few;
       running_are = kept.room.running_are ∙ ap length (sym (executions-same line (line ++ e ∷ []) same_runner));
-      line_room = omega (arith, kept.room.line_room, fewer_is, left_is, some);
+      queue_room = omega (arith, kept.room.queue_room, fewer_is, left_is, some);
       finished_room = omega (arith, kept.room.finished_room, fewer_is, more_is, some);
     };
     shut = λ shut. let no : ⊥ = cc in absurd no;
@@ -250,8 +252,8 @@ module _ (places : List (HeldValue Placed)) (issued : List ℕ) (line : List InL
       still m before = stage-push (λ s. is_some (waiting_job s)) line e m ∙ by (length line + 1 == m) refl
         where
           by : (b : Bool) → (length line + 1 == m) ≡ b → cond b (is_some (waiting_job e.stage)) (waits line m) ≡ false
-          by true same = let at : length line + 1 ≡ m = same-tells (length line + 1) m same in absurd (omega (arith, at, before, kept.in_line.within))
-          by false same = kept.in_line.passed m before
+          by true same = let at : length line + 1 ≡ m = same-tells (length line + 1) m same in absurd (omega (arith, at, before, kept.numbered_work.within))
+          by false same = kept.numbered_work.passed m before
 
   -- WORKS ARE PASSED OVER THAT DO NOT WAIT
   pub kept-passed : (next : ℕ) → next ≤ length line → ((m : ℕ) → first < m → m ≤ next → waits line m ≡ false)
@@ -259,7 +261,7 @@ module _ (places : List (HeldValue Placed)) (issued : List ℕ) (line : List InL
   kept-passed next within passed = record {
     known = kept.known;
     linked = kept.linked;
-    in_line = record { apart = kept.in_line.apart; within = within; passed = λ m before. by m before (cases_lt first m) };
+    numbered_work = record { apart = kept.numbered_work.apart; within = within; passed = λ m before. by m before (cases_lt first m) };
     came_out = kept.came_out;
     room = kept.room;
     shut = kept.shut;
@@ -267,27 +269,28 @@ module _ (places : List (HeldValue Placed)) (issued : List ℕ) (line : List InL
     where
       by : (m : ℕ) → m ≤ next → (first < m) ⊎ (m ≤ first) → waits line m ≡ false
       by m before (inl later) = passed m later before
-      by m before (inr sooner) = kept.in_line.passed m sooner
+      by m before (inr sooner) = kept.numbered_work.passed m sooner
 
   -- A WORK IN LINE COMES FURTHER
-  module _ (lines : List InLine) (n : ℕ) (e : InLine) (there : line_work_at line n ≡ Some e) where
-    at-stage : line_stage_at line n ≡ e.stage
-    at-stage = ap (λ o. option_map_or (λ (x : InLine). x.stage) o Done) there
+  module _ (lines : List NumberedWork) (n : ℕ) (e : NumberedWork) (there : queue_work_at line n ≡ Some e) where
+    at-stage : queue_stage_at line n ≡ e.stage
+    at-stage = ap (λ o. option_map_or (λ (x : NumberedWork). x.stage) o Done) there
 
     -- where it does not wait any more
-    pub passed-over : (s : LineStage) → waiting_job s ≡ None → (m : ℕ) → waits (set line (n - 1) (with_stage s e)) m ≡ cond (n == m) false (waits line m)
+    pub passed-over : (s : QueueStage) → waiting_job s ≡ None → (m : ℕ) → waits (set line (n - 1) (with_stage s e)) m ≡ cond (n == m) false (waits line m)
     passed-over s none m =
         stage-restaged line (set line (n - 1) (with_stage s e)) n e s (restaged line n e s there) (λ t. is_some (waiting_job t)) m
         ∙ ap (λ o. cond (n == m) (is_some o) (waits line m)) none
 
-    still-passed : (s : LineStage) → waiting_job s ≡ None → (m : ℕ) → m ≤ first → waits (set line (n - 1) (with_stage s e)) m ≡ false
+    still-passed : (s : QueueStage) → waiting_job s ≡ None → (m : ℕ) → m ≤ first → waits (set line (n - 1) (with_stage s e)) m ≡ false
     still-passed s none m before = passed-over s none m ∙ by (n == m)
       where
         by : (b : Bool) → cond b false (waits line m) ≡ false
         by true = refl
-        by false = kept.in_line.passed m before
+        by false = kept.numbered_work.passed m before
 
-    pub waiting-still : (s : LineStage) → waiting_job s ≡ None → waiting_job e.stage ≡ None → waiting_works (set line (n - 1) (with_stage s e)) ≡ waiting_works line
+    pub waiting-still : (s : QueueStage) → waiting_job s ≡ None → waiting_job e.stage ≡ None → waiting_works
+        (set line (n - 1) (with_stage s e)) ≡ waiting_works line
     waiting-still s none none_before = waiting-same line (set line (n - 1) (with_stage s e)) (λ m. passed-over s none m ∙ by m (n == m) refl)
       where
         by : (m : ℕ) (b : Bool) → (n == m) ≡ b → cond b false (waits line m) ≡ waits line m
@@ -295,12 +298,12 @@ module _ (places : List (HeldValue Placed)) (issued : List ℕ) (line : List InL
         by m false same = refl
 
     -- where it does not run any more
-    pub fewer-run : (s : LineStage) → runner s ≡ None → (m : ℕ) → runner_at (set line (n - 1) (with_stage s e)) m ≡ cond (n == m) None (runner_at line m)
+    pub fewer-run : (s : QueueStage) → runner s ≡ None → (m : ℕ) → runner_at (set line (n - 1) (with_stage s e)) m ≡ cond (n == m) None (runner_at line m)
     fewer-run s none m =
         stage-restaged line (set line (n - 1) (with_stage s e)) n e s (restaged line n e s there) runner m
         ∙ ap (λ o. cond (n == m) o (runner_at line m)) none
 
-    pub executions-still : (s : LineStage) → runner s ≡ None → runner e.stage ≡ None → executions (set line (n - 1) (with_stage s e)) ≡ executions line
+    pub executions-still : (s : QueueStage) → runner s ≡ None → runner e.stage ≡ None → executions (set line (n - 1) (with_stage s e)) ≡ executions line
     executions-still s none none_before = executions-same line (set line (n - 1) (with_stage s e)) (λ m. fewer-run s none m ∙ by m (n == m) refl)
       where
         by : (m : ℕ) (b : Bool) → (n == m) ≡ b → cond b None (runner_at line m) ≡ runner_at line m
@@ -310,7 +313,7 @@ module _ (places : List (HeldValue Placed)) (issued : List ℕ) (line : List InL
     waits-here : (job : JobSpec) → waiting_job e.stage ≡ Some job → waits line n ≡ true
     waits-here job is = ap (λ t. is_some (waiting_job t)) at-stage ∙ ap is_some is
 
-    fewer-wait : (s : LineStage) (job : JobSpec) → waiting_job s ≡ None → waiting_job e.stage ≡ Some job
+    fewer-wait : (s : QueueStage) (job : JobSpec) → waiting_job s ≡ None → waiting_job e.stage ≡ Some job
         → length (waiting_works (set line (n - 1) (with_stage s e))) + 1 ≡ length (waiting_works line)
     fewer-wait s job none waits_for =
         ap (λ ns. length ns + 1) (waiting-less line (set line (n - 1) (with_stage s e)) n (passed-over s none)) ∙ length-less line n (waits-here job waits_for)
@@ -322,17 +325,17 @@ module _ (places : List (HeldValue Placed)) (issued : List ℕ) (line : List InL
       runs-now m = stage-restaged line (set line (n - 1) (with_stage (Runs w) e)) n e (Runs w) (restaged line n e (Runs w) there) runner m
 
       idle : (m : ℕ) → runner_at line m ≡ Some w → ⊥
-      idle = idle-worker line w kept.in_line.apart free
+      idle = idle-worker line w kept.numbered_work.apart free
 
       waited : runner_at line n ≡ None
       waited = ap runner at-stage ∙ (only-waits e.stage job waits_for).idle
 
       apart-now : AreApart (set line (n - 1) (with_stage (Runs w) e))
-      apart-now = apart-started line (set line (n - 1) (with_stage (Runs w) e)) n w kept.in_line.apart idle waited runs-now
+      apart-now = apart-started line (set line (n - 1) (with_stage (Runs w) e)) n w kept.numbered_work.apart idle waited runs-now
 
       pub executions-now : executions (set line (n - 1) (with_stage (Runs w) e)) ≡ with_record (λ x. x.worker) (record { worker = w; work = n })
           (executions line)
-      executions-now = executions-started line (set line (n - 1) (with_stage (Runs w) e)) n w kept.in_line.apart idle waited runs-now
+      executions-now = executions-started line (set line (n - 1) (with_stage (Runs w) e)) n w kept.numbered_work.apart idle waited runs-now
 
       more-run : length (executions line) + 1 ≡ length (executions (set line (n - 1) (with_stage (Runs w) e)))
       more-run =
@@ -354,7 +357,7 @@ module _ (places : List (HeldValue Placed)) (issued : List ℕ) (line : List InL
       kept-started fewer more is still_open fewer_is more_is = rw is (record {
         known = kept.known;
         linked = linked-restaged places line (set line (n - 1) (with_stage (Runs w) e)) n e (Runs w) kept.linked change refl (λ _. only.unfinished);
-        in_line = record { apart = apart-now; within = omega (arith, change.long, kept.in_line.within); passed = still-passed (Runs w) refl };
+        numbered_work = record { apart = apart-now; within = omega (arith, change.long, kept.numbered_work.within); passed = still-passed (Runs w) refl };
         came_out = out-started places line (set line (n - 1) (with_stage (Runs w) e)) finished n e (Runs w) kept.came_out change refl only.lives;
         room = record {
           created_are = kept.room.created_are;
@@ -362,7 +365,7 @@ module _ (places : List (HeldValue Placed)) (issued : List ℕ) (line : List InL
           numbers = omega (arith, change.long, kept.room.numbers);
           few = kept.room.few;
           running_are = omega (arith, more_is, kept.room.running_are, more-run);
-          line_room = kept.room.line_room;
+          queue_room = kept.room.queue_room;
           finished_room = omega (arith, kept.room.finished_room, fewer_is, more_is, queued-some n (waits-here job waits_for));
         };
         shut = λ shut. let no : ⊥ = cc in absurd no;
@@ -381,9 +384,9 @@ module _ (places : List (HeldValue Placed)) (issued : List ℕ) (line : List InL
     kept-cancelled outcomes o fewer job is out_is waits_for its unspent fewer_is = rw (is, out_is) (record {
       known = kept.known;
       linked = linked-restaged places line (set line (n - 1) (with_stage Ended e)) n e Ended kept.linked change refl (λ _. only.unfinished);
-      in_line = record {
-        apart = apart-less line (set line (n - 1) (with_stage Ended e)) n kept.in_line.apart (fewer-run Ended refl);
-        within = omega (arith, change.long, kept.in_line.within);
+      numbered_work = record {
+        apart = apart-less line (set line (n - 1) (with_stage Ended e)) n kept.numbered_work.apart (fewer-run Ended refl);
+        within = omega (arith, change.long, kept.numbered_work.within);
         passed = still-passed Ended refl;
       };
       came_out = out-ended places line (set line (n - 1) (with_stage Ended e)) finished n e Ended kept.came_out change o refl only.lives its told;
@@ -393,7 +396,7 @@ module _ (places : List (HeldValue Placed)) (issued : List ℕ) (line : List InL
         numbers = omega (arith, change.long, kept.room.numbers);
         few = kept.room.few;
         running_are = kept.room.running_are ∙ ap length (sym (executions-still Ended refl only.idle));
-        line_room = kept.room.line_room;
+        queue_room = kept.room.queue_room;
         finished_room = omega (arith, kept.room.finished_room, fewer_is, queued-some n (waits-here job waits_for), length-append finished (o ∷ []));
       };
       shut = λ shut. let none : waits line n ≡ false = sym (has-waiting line n) ∙ ap (has_number n)
@@ -416,9 +419,9 @@ module _ (places : List (HeldValue Placed)) (issued : List ℕ) (line : List InL
     kept-finished outcomes o w fewer is out_is runs its unspent fewer_is = rw (is, out_is) (record {
       known = kept.known;
       linked = linked-restaged places line (set line (n - 1) (with_stage Ended e)) n e Ended kept.linked change refl (λ _. only.unfinished);
-      in_line = record {
-        apart = apart-less line (set line (n - 1) (with_stage Ended e)) n kept.in_line.apart (fewer-run Ended refl);
-        within = omega (arith, change.long, kept.in_line.within);
+      numbered_work = record {
+        apart = apart-less line (set line (n - 1) (with_stage Ended e)) n kept.numbered_work.apart (fewer-run Ended refl);
+        within = omega (arith, change.long, kept.numbered_work.within);
         passed = still-passed Ended refl;
       };
       came_out = out-ended places line (set line (n - 1) (with_stage Ended e)) finished n e Ended kept.came_out change o refl only.lives its (keeps-none places o unspent);
@@ -428,7 +431,7 @@ module _ (places : List (HeldValue Placed)) (issued : List ℕ) (line : List InL
         numbers = omega (arith, change.long, kept.room.numbers);
         few = kept.room.few;
         running_are = omega (arith, fewer_is, kept.room.running_are, less);
-        line_room = kept.room.line_room;
+        queue_room = kept.room.queue_room;
         finished_room = omega (arith, kept.room.finished_room, fewer_is, running-some n w runs_here, length-append finished (o ∷ []));
       };
       shut = λ shut. waiting-still Ended refl only.started ∙ kept.shut shut;
@@ -445,23 +448,25 @@ module _ (places : List (HeldValue Placed)) (issued : List ℕ) (line : List InL
 
         less : length (executions (set line (n - 1) (with_stage Ended e))) + 1 ≡ length (executions line)
         less =
-            ap (λ xs. length xs + 1) (executions-finished line (set line (n - 1) (with_stage Ended e)) n w kept.in_line.apart runs_here (fewer-run Ended refl))
-            ∙ length-finished line (set line (n - 1) (with_stage Ended e)) n w kept.in_line.apart runs_here (fewer-run Ended refl)
+            ap (λ xs. length xs + 1)
+            (executions-finished line (set line (n - 1) (with_stage Ended e)) n w kept.numbered_work.apart runs_here (fewer-run Ended refl))
+            ∙ length-finished line (set line (n - 1) (with_stage Ended e)) n w kept.numbered_work.apart runs_here (fewer-run Ended refl)
 
 -- its completion begins
-pub kept-completed : (places : List (HeldValue Placed)) (issued : List ℕ) (line lines : List InLine) (finished outcomes : List CameOut) (o : CameOut) (first created queued running : ℕ)
-    (closing : Bool) (spare finished_places more : ℕ) (e : InLine)
-    → IsKeptPool places issued line finished first created queued running closing spare finished_places → finished ≡ o ∷ outcomes → line_work_at line o.number ≡ Some e
+pub kept-completed : (places : List (HeldValue Placed)) (issued : List ℕ) (line lines : List NumberedWork) (finished outcomes : List CameOut) (o : CameOut) (first created queued running : ℕ)
+    (closing : Bool) (spare finished_places more : ℕ) (e : NumberedWork)
+    → IsKeptPool places issued line finished first created queued running closing spare finished_places → finished ≡ o ∷ outcomes
+    → queue_work_at line o.number ≡ Some e
     → lines ≡ set line (o.number - 1) (with_stage Done e)
     → spare ≤ more → IsKeptPool places issued lines outcomes first created queued running closing more finished_places
 kept-completed places issued line lines finished outcomes o first created queued running closing spare finished_places more e kept out_is there is a = rw is (record {
   known = kept.known;
   linked = linked-restaged places line (set line (o.number - 1) (with_stage Done e)) o.number e Done kept.linked change refl
       (λ no. let not_so : ⊥ = cc in absurd not_so);
-  in_line = record {
-    apart = apart-less line (set line (o.number - 1) (with_stage Done e)) o.number kept.in_line.apart
+  numbered_work = record {
+    apart = apart-less line (set line (o.number - 1) (with_stage Done e)) o.number kept.numbered_work.apart
         (fewer-run places issued line finished first created queued running closing spare finished_places kept lines o.number e there Done refl);
-    within = omega (arith, change.long, kept.in_line.within);
+    within = omega (arith, change.long, kept.numbered_work.within);
     passed = still-passed places issued line finished first created queued running closing spare finished_places kept lines o.number e there Done refl;
   };
   came_out = out-completed places line (set line (o.number - 1) (with_stage Done e)) o outcomes e Done out change refl;
@@ -472,7 +477,7 @@ kept-completed places issued line lines finished outcomes o first created queued
     few = kept.room.few;
     running_are = kept.room.running_are ∙ ap length (sym
         (executions-still places issued line finished first created queued running closing spare finished_places kept lines o.number e there Done refl only.idle));
-    line_room = omega (arith, kept.room.line_room, a);
+    queue_room = omega (arith, kept.room.queue_room, a);
     finished_room = omega (arith, kept.room.finished_room, ap length out_is);
   };
   shut = λ shut. waiting_same ∙ kept.shut shut;
@@ -485,27 +490,29 @@ kept-completed places issued line lines finished outcomes o first created queued
     out = rw (← out_is) kept.came_out
 
     only : OnlyEnded e.stage
-    only = only-ended e.stage (ap has_ended (sym (ap (λ x. option_map_or (λ (y : InLine). y.stage) x Done) there)) ∙ first-ended places line o outcomes out)
+    only = only-ended e.stage
+        (ap has_ended (sym (ap (λ x. option_map_or (λ (y : NumberedWork). y.stage) x Done) there)) ∙ first-ended places line o outcomes out)
 
     waiting_same : waiting_works (set line (o.number - 1) (with_stage Done e)) ≡ waiting_works line
     waiting_same = waiting-still places issued line finished first created queued running closing spare finished_places kept lines o.number e there Done refl only.started
 
 -- where none waits, any work may start or none
-pub kept-closed : (places : List (HeldValue Placed)) (issued : List ℕ) (line : List InLine) (finished : List CameOut) (first created queued running : ℕ) (closing now : Bool)
+pub kept-closed : (places : List (HeldValue Placed)) (issued : List ℕ) (line : List NumberedWork) (finished : List CameOut) (first created queued running : ℕ) (closing now : Bool)
     (spare finished_places : ℕ)
     → IsKeptPool places issued line finished first created queued running closing spare finished_places → waiting_works line ≡ []
     → IsKeptPool places issued line finished first created queued running now spare finished_places
 kept-closed places issued line finished first created queued running closing now spare finished_places kept none = record {
   known = kept.known;
   linked = kept.linked;
-  in_line = kept.in_line;
+  numbered_work = kept.numbered_work;
   came_out = kept.came_out;
   room = kept.room;
   shut = λ _. none;
 }
 
 -- before the first work is created
-pub kept-new : (places : List (HeldValue Placed)) (issued : List ℕ) (line : List InLine) (finished : List CameOut) (spare finished_places : ℕ) → places ≡ [] → issued ≡ [] → line ≡ []
+pub kept-new : (places : List (HeldValue Placed)) (issued : List ℕ) (line : List NumberedWork) (finished : List CameOut) (spare finished_places : ℕ)
+    → places ≡ [] → issued ≡ [] → line ≡ []
     → finished ≡ [] → IsKeptPool places issued line finished 0 0 0 0 false spare finished_places
 kept-new places issued line finished spare finished_places no_places no_issued no_line no_finished = rw (no_places, no_issued, no_line, no_finished) (record {
   known = λ id p is. absurd (nowhere id p is);
@@ -514,7 +521,7 @@ kept-new places issued line finished spare finished_places no_places no_issued n
     held = λ id p is. absurd (nowhere id p is);
     placed = λ n e is. absurd (no_entry n e is);
   };
-  in_line = record {
+  numbered_work = record {
     apart = λ n m w here. absurd (nobody n w here);
     within = omega arith;
     passed = λ n before. nothing n;
@@ -529,7 +536,7 @@ kept-new places issued line finished spare finished_places no_places no_issued n
     numbers = omega arith;
     few = omega arith;
     running_are = refl;
-    line_room = omega arith;
+    queue_room = omega arith;
     finished_room = omega arith;
   };
   shut = λ _. refl;
@@ -538,7 +545,7 @@ kept-new places issued line finished spare finished_places no_places no_issued n
     nowhere : (id : ℕ) (p : Placed) → place_at [] id ≡ Some p → ⊥
     nowhere id p is = cc
 
-    no_entry : (n : ℕ) (e : InLine) → line_work_at [] n ≡ Some e → ⊥
+    no_entry : (n : ℕ) (e : NumberedWork) → queue_work_at [] n ≡ Some e → ⊥
     no_entry zero e is = cc
     no_entry (suc k) e is = cc
 
@@ -555,14 +562,14 @@ kept-new places issued line finished spare finished_places no_places no_issued n
     unended (suc k) = refl
 
 -- where the first work that waits would stand
-module _ (line : List InLine) (first next : ℕ) (in_line : IsLine line first) (within : next ≤ length line) (passed : (m : ℕ) → first < m → m ≤ next
+module _ (line : List NumberedWork) (first next : ℕ) (numbered_work : IsQueue line first) (within : next ≤ length line) (passed : (m : ℕ) → first < m → m ≤ next
     → waits line m ≡ false) where
   before-next : (m : ℕ) → m ≤ next → waits line m ≡ false
   before-next m before = by (cases_lt first m)
     where
       by : (first < m) ⊎ (m ≤ first) → waits line m ≡ false
       by (inl later) = passed m later before
-      by (inr sooner) = in_line.passed m sooner
+      by (inr sooner) = numbered_work.passed m sooner
 
   pub none-waits : next ≡ length line → waiting_works line ≡ []
   none-waits at_end = waiting-none line (λ m. by m (cases_lt next m))

@@ -3,7 +3,7 @@ pub mod Draining
 pub mod FirstCompletions
 pub mod Ids
 pub mod KeepingPools
-pub mod KeptLine
+pub mod KeptQueue
 pub mod Linking
 pub mod Mapped
 pub mod PoolExecutions

@@ -1,4 +1,4 @@
--- Places and line go on naming each other, and what came out stays as it was told.
+-- Places and queue go on naming each other, and what came out stays as it was told.
 use Rattle.std.proofs.Common.{◌≡◌, ◌∙◌, ℕ, ◌+◌, ◌<◌, ◌≤◌, ◌==◌, Bool, true, false, cond, List, [], ◌∷◌, ◌++◌, length, get_or, Option, Some, None, IfSome, option_map, refl, ap, sym, subst, arith, length-append}
 use Rattle.std.specs.List.{All, count_by}
 use Rattle.std.specs.Option.{option_map_or}
@@ -7,8 +7,8 @@ use Rattle.std.proofs.lemmas.List.Sums.{sum_by-cons, sum_by-append, get_or-le-su
 use Rattle.std.proofs.lemmas.List.Elements.{All-append, All-cons, All-nil, All-head, All-tail}
 use Rattle.napi_types.proofs.plain.Found.{same-self, same-tells, apart-above}
 use Rattle.async_work.specs.WorkPlaces.{Placed, place_at, with_place_number}
-use Rattle.async_work.specs.Line.{LineStage, Waits, Runs, Ended, Done, InLine, CameOut, waiting_job, has_ended, is_done_in_line, with_stage, line_work_at, line_stage_at, line_id_at, ended_at}
-use Rattle.async_work.specs.KeptPool.{StandsInLine, KeepsJob, IsNumberOf, AreLinked, CameOutOnce}
+use Rattle.async_work.specs.Queue.{QueueStage, Waits, Runs, Ended, Done, NumberedWork, CameOut, waiting_job, has_ended, is_done_in_queue, with_stage, queue_work_at, queue_stage_at, queue_id_at, ended_at}
+use Rattle.async_work.specs.KeptPool.{StandsInQueue, KeepsJob, IsNumberOf, AreLinked, CameOutOnce}
 use Rattle.async_work.proofs.Ids.{Replaced}
 use Rattle.async_work.proofs.Queueing.{Restaged, stage-restaged, id-restaged, id-other, entry-push, stage-push, stage-past, stage-in_line, id-in_line}
 
@@ -42,11 +42,12 @@ place_at-old places others id p m q absent change is = change.at m ∙ ap (λ b.
     other : id ≡ m → ⊥
     other same = let it : None ≡ Some q = sym absent ∙ ap (place_at places) same ∙ is in cc
 
-pub stage-of : (line : List InLine) (n : ℕ) (e : InLine) → line_work_at line n ≡ Some e → line_stage_at line n ≡ e.stage
-stage-of line n e is = ap (λ o. option_map_or (λ (x : InLine). x.stage) o Done) is
+pub stage-of : (line : List NumberedWork) (n : ℕ) (e : NumberedWork) → queue_work_at line n ≡ Some e → queue_stage_at line n ≡ e.stage
+stage-of line n e is = ap (λ o. option_map_or (λ (x : NumberedWork). x.stage) o Done) is
 
 -- A WORK IS CREATED
-pub linked-created : (places others : List (HeldValue Placed)) (line : List InLine) (id : ℕ) (p : Placed) → AreLinked places line → place_at places id ≡ None
+pub linked-created : (places others : List (HeldValue Placed)) (line : List NumberedWork) (id : ℕ) (p : Placed) → AreLinked places line
+    → place_at places id ≡ None
     → Replaced places others id (Some p) → p.number ≡ None → p.job ≡ Some p.spec → AreLinked others line
 linked-created places others line id p linked absent change none held = record {
   named = λ m q is. named m q (id == m) (sym (change.at m) ∙ is);
@@ -62,13 +63,13 @@ linked-created places others line id p linked absent change none held = record {
     keeps m q true told empty = let same : p ≡ q = same-some p q told in subst (λ (r : Placed). r.job ≡ Some r.spec) same held
     keeps m q false told empty = linked.held m q told empty
 
-    stands : (n : ℕ) (e : InLine) → StandsInLine places n e → StandsInLine others n e
+    stands : (n : ℕ) (e : NumberedWork) → StandsInQueue places n e → StandsInQueue others n e
     stands n e old = record { place = old.place; there = place_at-old places others id p e.id old.place absent change old.there; numbered = old.numbered; job = old.job }
 
 -- A WORK IS DELETED
-pub linked-deleted : (places others : List (HeldValue Placed)) (line : List InLine) (id : ℕ) (p : Placed) → AreLinked places line
+pub linked-deleted : (places others : List (HeldValue Placed)) (line : List NumberedWork) (id : ℕ) (p : Placed) → AreLinked places line
     → place_at places id ≡ Some p → Replaced places others id None
-    → ((n : ℕ) → p.number ≡ Some n → is_done_in_line (line_stage_at line n) ≡ true) → AreLinked others line
+    → ((n : ℕ) → p.number ≡ Some n → is_done_in_queue (queue_stage_at line n) ≡ true) → AreLinked others line
 linked-deleted places others line id p linked is change done = record {
   named = λ m q told. linked.named m q (before m q (id == m) (sym (change.at m) ∙ told));
   held = λ m q told. linked.held m q (before m q (id == m) (sym (change.at m) ∙ told));
@@ -79,7 +80,7 @@ linked-deleted places others line id p linked is change done = record {
     before m q true told = let no : ⊥ = cc in absurd no
     before m q false told = told
 
-    stands : (n : ℕ) (e : InLine) → line_work_at line n ≡ Some e → is_done_in_line e.stage ≡ false → StandsInLine places n e → StandsInLine others n e
+    stands : (n : ℕ) (e : NumberedWork) → queue_work_at line n ≡ Some e → is_done_in_queue e.stage ≡ false → StandsInQueue places n e → StandsInQueue others n e
     stands n e at unfinished old = record {
       place = old.place;
       there = change.at e.id ∙ ap (λ b. cond b None (place_at places e.id)) (apart-of id e.id other) ∙ old.there;
@@ -91,11 +92,11 @@ linked-deleted places others line id p linked is change done = record {
         other same =
             let one : p ≡ old.place = same-some p old.place (sym is ∙ ap (place_at places) same ∙ old.there) in
             let its : p.number ≡ Some n = ap (λ (r : Placed). r.number) one ∙ old.numbered in
-            let over : is_done_in_line e.stage ≡ true = ap is_done_in_line (sym (stage-of line n e at)) ∙ done n its in
+            let over : is_done_in_queue e.stage ≡ true = ap is_done_in_queue (sym (stage-of line n e at)) ∙ done n its in
             cc
 
 -- A WORK IS QUEUED
-pub linked-queued : (places others : List (HeldValue Placed)) (line : List InLine) (id n : ℕ) (p : Placed) (e : InLine) → AreLinked places line
+pub linked-queued : (places others : List (HeldValue Placed)) (line : List NumberedWork) (id n : ℕ) (p : Placed) (e : NumberedWork) → AreLinked places line
     → n ≡ length line + 1 → place_at places id ≡ Some p → p.number ≡ None
     → Replaced places others id (Some (with_place_number n p)) → e.id ≡ id → waiting_job e.stage ≡ Some p.spec → AreLinked others (line ++ e ∷ [])
 linked-queued places others line id n p e linked new is none change its waits_for = record {
@@ -107,17 +108,19 @@ linked-queued places others line id n p e linked new is none change its waits_fo
     longer : length (line ++ e ∷ []) ≡ length line + 1
     longer = length-append line (e ∷ [])
 
-    here : line_id_at (line ++ e ∷ []) n ≡ Some id
-    here = ap (option_map (λ (x : InLine). x.id)) (entry-push line e n ∙ ap (λ b. cond b (Some e) (line_work_at line n)) (ap (λ k. length line + 1 == k) new
+    here : queue_id_at (line ++ e ∷ []) n ≡ Some id
+    here = ap (option_map (λ (x : NumberedWork). x.id))
+        (entry-push line e n ∙ ap (λ b. cond b (Some e) (queue_work_at line n)) (ap (λ k. length line + 1 == k) new
         ∙ same-self (length line + 1))) ∙ ap (λ k. Some k) its
 
-    -- a number within the line stays that of its work
+    -- a number within the queue stays that of its work
     still : (m k : ℕ) → IsNumberOf line m k → IsNumberOf (line ++ e ∷ []) m k
     still m k old = (
       omega (arith, longer, old.0),
       λ unfinished.
-          ap (option_map (λ (x : InLine). x.id)) (entry-push line e k ∙ ap (λ b. cond b (Some e) (line_work_at line k)) apart)
-          ∙ old.1 (sym (stage-push is_done_in_line line e k ∙ ap (λ b. cond b (is_done_in_line e.stage) (is_done_in_line (line_stage_at line k))) apart) ∙ unfinished),
+          ap (option_map (λ (x : NumberedWork). x.id)) (entry-push line e k ∙ ap (λ b. cond b (Some e) (queue_work_at line k)) apart)
+          ∙ old.1 (sym (stage-push is_done_in_queue line e k ∙ ap (λ b. cond b (is_done_in_queue e.stage) (is_done_in_queue (queue_stage_at line k))) apart)
+          ∙ unfinished),
     )
       where
         apart : (length line + 1 == k) ≡ false
@@ -137,9 +140,10 @@ linked-queued places others line id n p e linked new is none change its waits_fo
         let no : ⊥ = let number : Some n ≡ None = ap (λ (r : Placed). r.number) one ∙ empty in cc in absurd no
     keeps m q false told empty = linked.held m q told empty
 
-    placed : (m : ℕ) (x : InLine) → is_done_in_line x.stage ≡ false → (b : Bool) → (length line + 1 == m) ≡ b → cond b (Some e) (line_work_at line m) ≡ Some x
-        → StandsInLine others m x
-    placed m x unfinished true same told = subst (λ (y : InLine). StandsInLine others m y) (same-some e x told) (record {
+    placed : (m : ℕ) (x : NumberedWork) → is_done_in_queue x.stage ≡ false → (b : Bool) → (length line + 1 == m) ≡ b → cond b (Some e)
+        (queue_work_at line m) ≡ Some x
+        → StandsInQueue others m x
+    placed m x unfinished true same told = subst (λ (y : NumberedWork). StandsInQueue others m y) (same-some e x told) (record {
       place = with_place_number n p;
       there = change.at e.id ∙ ap (λ b. cond b (Some (with_place_number n p)) (place_at places e.id)) (ap (λ k. id == k) its ∙ same-self id);
       numbered = ap (λ k. Some k) (new ∙ same-tells (length line + 1) m same);
@@ -147,13 +151,13 @@ linked-queued places others line id n p e linked new is none change its waits_fo
     })
     placed m x unfinished false same told = stands (linked.placed m x told unfinished)
       where
-        other : (old : StandsInLine places m x) → id ≡ x.id → ⊥
+        other : (old : StandsInQueue places m x) → id ≡ x.id → ⊥
         other old one =
             let first : p ≡ old.place = same-some p old.place (sym is ∙ ap (place_at places) one ∙ old.there) in
             let no : None ≡ Some m = sym none ∙ ap (λ (r : Placed). r.number) first ∙ old.numbered in
             cc
 
-        stands : StandsInLine places m x → StandsInLine others m x
+        stands : StandsInQueue places m x → StandsInQueue others m x
         stands old = record {
           place = old.place;
           there = change.at x.id ∙ ap (λ b. cond b (Some (with_place_number n p)) (place_at places x.id)) (apart-of id x.id (other old)) ∙ old.there;
@@ -162,9 +166,9 @@ linked-queued places others line id n p e linked new is none change its waits_fo
         }
 
 -- A WORK COMES FURTHER
-pub linked-restaged : (places : List (HeldValue Placed)) (line others : List InLine) (n : ℕ) (e : InLine) (s : LineStage) → AreLinked places line
+pub linked-restaged : (places : List (HeldValue Placed)) (line others : List NumberedWork) (n : ℕ) (e : NumberedWork) (s : QueueStage) → AreLinked places line
     → Restaged line others n e s
-    → waiting_job s ≡ None → (is_done_in_line s ≡ false → is_done_in_line e.stage ≡ false) → AreLinked places others
+    → waiting_job s ≡ None → (is_done_in_queue s ≡ false → is_done_in_queue e.stage ≡ false) → AreLinked places others
 linked-restaged places line others n e s linked change no_job before_open = record {
   named = λ id q is. if-more (λ k. IsNumberOf line id k) (λ k. IsNumberOf others id k) q.number (still id) (linked.named id q is);
   held = linked.held;
@@ -174,24 +178,29 @@ linked-restaged places line others n e s linked change no_job before_open = reco
     still : (id k : ℕ) → IsNumberOf line id k → IsNumberOf others id k
     still id k old = (omega (arith, change.long, old.0), λ unfinished. by (n == k) refl unfinished)
       where
-        at-stage : (b : Bool) → (n == k) ≡ b → is_done_in_line (line_stage_at others k) ≡ cond b (is_done_in_line s) (is_done_in_line (line_stage_at line k))
-        at-stage b same = stage-restaged line others n e s change is_done_in_line k ∙ ap (λ c. cond c (is_done_in_line s) (is_done_in_line (line_stage_at line k))) same
+        at-stage : (b : Bool) → (n == k) ≡ b → is_done_in_queue (queue_stage_at others k) ≡ cond b (is_done_in_queue s)
+            (is_done_in_queue (queue_stage_at line k))
+        at-stage b same = stage-restaged line others n e s change is_done_in_queue k ∙ ap
+            (λ c. cond c (is_done_in_queue s) (is_done_in_queue (queue_stage_at line k))) same
 
-        by : (b : Bool) → (n == k) ≡ b → is_done_in_line (line_stage_at others k) ≡ false → line_id_at others k ≡ Some id
+        by : (b : Bool) → (n == k) ≡ b → is_done_in_queue (queue_stage_at others k) ≡ false → queue_id_at others k ≡ Some id
         by true same unfinished =
-            let open_still : is_done_in_line s ≡ false = sym (at-stage true same) ∙ unfinished in
-            let was : is_done_in_line (line_stage_at line k) ≡ false =
-            ap (λ m. is_done_in_line (line_stage_at line m)) (sym (same-tells n k same)) ∙ ap is_done_in_line (stage-of line n e change.there) ∙ before_open open_still in
+            let open_still : is_done_in_queue s ≡ false = sym (at-stage true same) ∙ unfinished in
+            let was : is_done_in_queue (queue_stage_at line k) ≡ false =
+            ap (λ m. is_done_in_queue (queue_stage_at line m)) (sym (same-tells n k same)) ∙ ap is_done_in_queue (stage-of line n e change.there)
+            ∙ before_open open_still in
             id-restaged line others n e s change open_still k ∙ old.1 was
         by false same unfinished = id-other line others n e s change k same ∙ old.1 (sym (at-stage false same) ∙ unfinished)
 
-    placed : (m : ℕ) (x : InLine) → is_done_in_line x.stage ≡ false → (b : Bool) → (n == m) ≡ b → cond b (Some (with_stage s e)) (line_work_at line m) ≡ Some x
-        → StandsInLine places m x
+    placed : (m : ℕ) (x : NumberedWork) → is_done_in_queue x.stage ≡ false → (b : Bool) → (n == m) ≡ b → cond b (Some (with_stage s e))
+        (queue_work_at line m) ≡ Some x
+        → StandsInQueue places m x
     placed m x unfinished true same told =
         let one : with_stage s e ≡ x = same-some (with_stage s e) x told in
-        let stays : is_done_in_line s ≡ false = ap is_done_in_line (sym (stage-in_line e.id s)) ∙ ap (λ (y : InLine). is_done_in_line y.stage) one ∙ unfinished in
-        let old : StandsInLine places n e = linked.placed n e change.there (before_open stays) in
-        subst (λ (y : InLine). StandsInLine places m y) one (record {
+        let stays : is_done_in_queue s ≡ false = ap is_done_in_queue (sym (stage-in_line e.id s)) ∙ ap (λ (y : NumberedWork). is_done_in_queue y.stage) one
+        ∙ unfinished in
+        let old : StandsInQueue places n e = linked.placed n e change.there (before_open stays) in
+        subst (λ (y : NumberedWork). StandsInQueue places m y) one (record {
           place = old.place;
           there = ap (place_at places) (id-in_line e.id s stays) ∙ old.there;
           numbered = old.numbered ∙ ap (λ k. Some k) (same-tells n m same);
@@ -200,14 +209,14 @@ linked-restaged places line others n e s linked change no_job before_open = reco
     placed m x unfinished false same told = linked.placed m x told unfinished
 
 -- WHAT CAME OUT
-pub ended-unfinished : (s : LineStage) → has_ended s ≡ true → is_done_in_line s ≡ false
+pub ended-unfinished : (s : QueueStage) → has_ended s ≡ true → is_done_in_queue s ≡ false
 ended-unfinished (Waits spec) is = refl
 ended-unfinished (Runs w) is = refl
 ended-unfinished Ended is = refl
 ended-unfinished Done is = let no : ⊥ = cc in absurd no
 
 -- what is in the list has ended
-among-ended : (places : List (HeldValue Placed)) (line : List InLine) (finished : List CameOut) (k : ℕ) (d : CameOut) → CameOutOnce places line finished
+among-ended : (places : List (HeldValue Placed)) (line : List NumberedWork) (finished : List CameOut) (k : ℕ) (d : CameOut) → CameOutOnce places line finished
     → k < length finished → ended_at line (get_or finished k d).number ≡ true
 among-ended places line finished k d out inside =
     let o : CameOut = get_or finished k d in
@@ -221,7 +230,7 @@ among-ended places line finished k d out inside =
     by false false same count least = let no : ⊥ = cc in absurd no
 
 -- a job that is kept stays so where each work that has its number was there before, and computed the same
-told-all : (places others : List (HeldValue Placed)) (line : List InLine) (finished : List CameOut) → CameOutOnce places line finished
+told-all : (places others : List (HeldValue Placed)) (line : List NumberedWork) (finished : List CameOut) → CameOutOnce places line finished
     → ((n : ℕ) → ended_at line n ≡ true → (id : ℕ) (q : Placed) → place_at others id ≡ Some q → q.number ≡ Some n
     → (r : Placed) × (place_at places id ≡ Some r) × (r.number ≡ Some n) × (r.spec ≡ q.spec))
     → All (KeepsJob others) finished
@@ -232,7 +241,7 @@ told-all places others line finished out before k d inside =
     (λ s told id q at number. let r = before o.number (among-ended places line finished k d out inside) id q at number in sym r.3 ∙ told id r.0 r.1 r.2)
     (out.told k d inside)
 
-pub out-created : (places others : List (HeldValue Placed)) (line : List InLine) (finished : List CameOut) (id : ℕ) (p : Placed) → p.number ≡ None
+pub out-created : (places others : List (HeldValue Placed)) (line : List NumberedWork) (finished : List CameOut) (id : ℕ) (p : Placed) → p.number ≡ None
     → Replaced places others id (Some p) → CameOutOnce places line finished → CameOutOnce others line finished
 out-created places others line finished id p none change out = record {
   once = out.once;
@@ -246,7 +255,7 @@ out-created places others line finished id p none change out = record {
         let no : ⊥ = cc in absurd no
     by n m q false told number = (q, told, number, refl)
 
-pub out-deleted : (places others : List (HeldValue Placed)) (line : List InLine) (finished : List CameOut) (id : ℕ)
+pub out-deleted : (places others : List (HeldValue Placed)) (line : List NumberedWork) (finished : List CameOut) (id : ℕ)
     → CameOutOnce places line finished → Replaced places others id None → CameOutOnce others line finished
 out-deleted places others line finished id out change = record {
   once = out.once;
@@ -258,7 +267,7 @@ out-deleted places others line finished id out change = record {
     by n m q true told number = let no : ⊥ = cc in absurd no
     by n m q false told number = (q, told, number, refl)
 
-pub out-queued : (places others : List (HeldValue Placed)) (line : List InLine) (finished : List CameOut) (id n : ℕ) (p : Placed) (e : InLine)
+pub out-queued : (places others : List (HeldValue Placed)) (line : List NumberedWork) (finished : List CameOut) (id n : ℕ) (p : Placed) (e : NumberedWork)
     → CameOutOnce places line finished → n ≡ length line + 1
     → Replaced places others id (Some (with_place_number n p)) → has_ended e.stage ≡ false → CameOutOnce others (line ++ e ∷ []) finished
 out-queued places others line finished id n p e out new change waits_still = record {
@@ -282,7 +291,7 @@ out-queued places others line finished id n p e out new change waits_still = rec
         let no : ⊥ = cc in absurd no
     by k m q ended false told number = (q, told, number, refl)
 
-module _ (places : List (HeldValue Placed)) (line others : List InLine) (finished : List CameOut) (n : ℕ) (e : InLine) (s : LineStage)
+module _ (places : List (HeldValue Placed)) (line others : List NumberedWork) (finished : List CameOut) (n : ℕ) (e : NumberedWork) (s : QueueStage)
     (out : CameOutOnce places line finished) (change : Restaged line others n e s) where
   -- it starts
   pub out-started : has_ended s ≡ false → has_ended e.stage ≡ false → CameOutOnce places others finished
@@ -328,7 +337,7 @@ module _ (places : List (HeldValue Placed)) (line others : List InLine) (finishe
           plain k = omega arith
 
 -- its completion begins
-pub out-completed : (places : List (HeldValue Placed)) (line others : List InLine) (o : CameOut) (finished : List CameOut) (e : InLine) (s : LineStage)
+pub out-completed : (places : List (HeldValue Placed)) (line others : List NumberedWork) (o : CameOut) (finished : List CameOut) (e : NumberedWork) (s : QueueStage)
     → CameOutOnce places line (o ∷ finished)
     → Restaged line others o.number e s → has_ended s ≡ false → CameOutOnce places others finished
 out-completed places line others o finished e s out change after = record {
@@ -356,7 +365,7 @@ out-completed places line others o finished e s out change after = record {
         plain k = omega arith
 
 -- the first of them has the job that it should have
-pub first-told : (places : List (HeldValue Placed)) (line : List InLine) (o : CameOut) (finished : List CameOut) (e : InLine) (stands : StandsInLine places o.number e)
+pub first-told : (places : List (HeldValue Placed)) (line : List NumberedWork) (o : CameOut) (finished : List CameOut) (e : NumberedWork) (stands : StandsInQueue places o.number e)
     → CameOutOnce places line (o ∷ finished) → IfSome o.unspent (λ s. stands.place.spec ≡ s)
 first-told places line o finished e stands out =
     if-more (λ s. (id : ℕ) (p : Placed) → place_at places id ≡ Some p → p.number ≡ Some o.number → p.spec ≡ s) (λ s. stands.place.spec ≡ s) o.unspent
@@ -365,9 +374,9 @@ first-told places line o finished e stands out =
 pub keeps-none : (places : List (HeldValue Placed)) (o : CameOut) → o.unspent ≡ None → KeepsJob places o
 keeps-none places o is = if-none (λ s. (id : ℕ) (p : Placed) → place_at places id ≡ Some p → p.number ≡ Some o.number → p.spec ≡ s) o.unspent is
 
--- the job of a work that stands in line is the one that it should be
-pub keeps-job : (places : List (HeldValue Placed)) (line : List InLine) (n : ℕ) (e : InLine) → AreLinked places line → line_work_at line n ≡ Some e
-    → is_done_in_line e.stage ≡ false → (stands : StandsInLine places n e) (o : CameOut) → o.number ≡ n → o.unspent ≡ waiting_job e.stage → KeepsJob places o
+-- the job of a work that stands in the queue is the one that it should be
+pub keeps-job : (places : List (HeldValue Placed)) (line : List NumberedWork) (n : ℕ) (e : NumberedWork) → AreLinked places line → queue_work_at line n ≡ Some e
+    → is_done_in_queue e.stage ≡ false → (stands : StandsInQueue places n e) (o : CameOut) → o.number ≡ n → o.unspent ≡ waiting_job e.stage → KeepsJob places o
 keeps-job places line n e linked at unfinished stands o number is =
     subst (λ u. IfSome u (λ s. (id : ℕ) (p : Placed) → place_at places id ≡ Some p → p.number ≡ Some o.number → p.spec ≡ s)) (sym is)
     (if-more (λ s. s ≡ stands.place.spec) (λ s. (id : ℕ) (p : Placed) → place_at places id ≡ Some p → p.number ≡ Some o.number → p.spec ≡ s) (waiting_job e.stage)
@@ -376,11 +385,11 @@ keeps-job places line n e linked at unfinished stands o number is =
     same : (id : ℕ) (p : Placed) → place_at places id ≡ Some p → p.number ≡ Some n → p ≡ stands.place
     same id p there its =
         let named = if-some (λ k. IsNumberOf line id k) p.number n its (linked.named id p there) in
-        let its_id : line_id_at line n ≡ Some id = named.1 (ap is_done_in_line (stage-of line n e at) ∙ unfinished) in
-        let one : id ≡ e.id = same-some id e.id (sym its_id ∙ ap (option_map (λ (x : InLine). x.id)) at) in
+        let its_id : queue_id_at line n ≡ Some id = named.1 (ap is_done_in_queue (stage-of line n e at) ∙ unfinished) in
+        let one : id ≡ e.id = same-some id e.id (sym its_id ∙ ap (option_map (λ (x : NumberedWork). x.id)) at) in
         same-some p stands.place (sym there ∙ ap (place_at places) one ∙ stands.there)
 
 -- what has come out has ended
-pub first-ended : (places : List (HeldValue Placed)) (line : List InLine) (o : CameOut) (finished : List CameOut) → CameOutOnce places line (o ∷ finished)
+pub first-ended : (places : List (HeldValue Placed)) (line : List NumberedWork) (o : CameOut) (finished : List CameOut) → CameOutOnce places line (o ∷ finished)
     → ended_at line o.number ≡ true
 first-ended places line o finished out = among-ended places line (o ∷ finished) 0 o out (omega arith)

@@ -5,7 +5,7 @@ use Rattle.std.specs.Option.{option_and_then, option_map_or}
 use Rattle.napi_types.specs.plain.Lists.{found, has, with_record, as_map}
 use Rattle.napi_types.specs.parts.Works.{Execution}
 use Rattle.napi_types.proofs.plain.Found.{same-self, same-tells, found-same, found-with_record, found-as_map, found-filter, found-number, found-All, rising-with_record, rising-as_map, rising-filter, has-found}
-use Rattle.async_work.specs.Line.{Done, InLine, runner, line_work_at, runner_at, listed_execution, executions_listed, executions}
+use Rattle.async_work.specs.Queue.{Done, NumberedWork, runner, queue_work_at, runner_at, listed_execution, executions_listed, executions}
 use Rattle.napi_types.proofs.plain.Counted.{listed-All, listed-rising, found-listed}
 use Rattle.async_work.proofs.CountingWorks.{found-other, has-as_map, length-without, some}
 
@@ -19,10 +19,10 @@ abbrev execution : ℕ → ℕ → Execution
 execution w n = record { worker = w; work = n }
 
 -- no worker executes two works
-abbrev pub AreApart : List InLine → Type 0
+abbrev pub AreApart : List NumberedWork → Type 0
 AreApart line = (n m w : ℕ) → runner_at line n ≡ Some w → runner_at line m ≡ Some w → n ≡ m
 
-keeps-work : (n : ℕ) (e : InLine) (x : Execution) → listed_execution n e ≡ Some x → x.work ≡ n
+keeps-work : (n : ℕ) (e : NumberedWork) (x : Execution) → listed_execution n e ≡ Some x → x.work ≡ n
 keeps-work n e x is = by (runner e.stage) is
   where
     by : (o : Option ℕ) → option_map (λ w. execution w n) o ≡ Some x → x.work ≡ n
@@ -30,49 +30,50 @@ keeps-work n e x is = by (runner e.stage) is
     by (Some w) told = let same : execution w n ≡ x = cc in ap executed_work (sym same)
 
 -- BY THE WORK
-found-work : (line : List InLine) (n : ℕ) → found executed_work n (executions_listed line) ≡ option_map (λ w. execution w n) (runner_at line n)
-found-work line n = found-listed listed_execution executed_work keeps-work n line ∙ by (line_work_at line n)
+found-work : (line : List NumberedWork) (n : ℕ) → found executed_work n (executions_listed line) ≡ option_map (λ w. execution w n) (runner_at line n)
+found-work line n = found-listed listed_execution executed_work keeps-work n line ∙ by (queue_work_at line n)
   where
-    by : (o : Option InLine) → option_and_then (listed_execution n) o ≡ option_map (λ w. execution w n) (runner (option_map_or (λ
-        (x : InLine). x.stage) o Done))
+    by : (o : Option NumberedWork) → option_and_then (listed_execution n) o ≡ option_map (λ w. execution w n) (runner (option_map_or (λ
+        (x : NumberedWork). x.stage) o Done))
     by None = refl
     by (Some e) = refl
 
-listed-same : (line others : List InLine) → ((m : ℕ) → runner_at others m ≡ runner_at line m) → executions_listed others ≡ executions_listed line
+listed-same : (line others : List NumberedWork) → ((m : ℕ) → runner_at others m ≡ runner_at line m) → executions_listed others ≡ executions_listed line
 listed-same line others same =
     found-same executed_work (executions_listed others) (executions_listed line) (listed-rising listed_execution executed_work keeps-work 1 others)
     (listed-rising listed_execution executed_work keeps-work 1 line)
     (λ m. found-work others m ∙ ap (option_map (λ w. execution w m)) (same m) ∙ sym (found-work line m))
 
-pub executions-same : (line others : List InLine) → ((m : ℕ) → runner_at others m ≡ runner_at line m) → executions others ≡ executions line
+pub executions-same : (line others : List NumberedWork) → ((m : ℕ) → runner_at others m ≡ runner_at line m) → executions others ≡ executions line
 executions-same line others same = ap (as_map worker) (listed-same line others same)
 
 -- BY THE WORKER
-runs : (line : List InLine) → All (λ x. runner_at line x.work ≡ Some x.worker) (executions_listed line)
+runs : (line : List NumberedWork) → All (λ x. runner_at line x.work ≡ Some x.worker) (executions_listed line)
 runs line = listed-All listed_execution (λ x. runner_at line x.work ≡ Some x.worker) 1 line each
   where
-    by : (i : ℕ) (e : InLine) (x : Execution) (o : Option ℕ) → slice_get line i ≡ Some e → runner e.stage ≡ o
+    by : (i : ℕ) (e : NumberedWork) (x : Execution) (o : Option ℕ) → slice_get line i ≡ Some e → runner e.stage ≡ o
         → option_map (λ w. execution w (1 + i)) o ≡ Some x → runner_at line x.work ≡ Some x.worker
     by i e x None at told is = let no : ⊥ = cc in absurd no
     by i e x (Some w) at told is =
         let same : execution w (1 + i) ≡ x = cc in
         ap (λ (y : Execution). runner_at line y.work) (sym same) ∙ ap (runner_at line) (next i)
-        ∙ ap (λ o. runner (option_map_or (λ (y : InLine). y.stage) o Done)) at ∙ told ∙ ap (λ (y : Execution). Some y.worker) same
+        ∙ ap (λ o. runner (option_map_or (λ (y : NumberedWork). y.stage) o Done)) at ∙ told ∙ ap (λ (y : Execution). Some y.worker) same
       where
         next : (i : ℕ) → 1 + i ≡ suc i
         next i = omega arith
 
-    each : (i : ℕ) (e : InLine) (x : Execution) → slice_get line i ≡ Some e → listed_execution (1 + i) e ≡ Some x → runner_at line x.work ≡ Some x.worker
+    each : (i : ℕ) (e : NumberedWork) (x : Execution) → slice_get line i ≡ Some e → listed_execution (1 + i) e ≡ Some x → runner_at line x.work ≡ Some x.worker
     each i e x at is = by i e x (runner e.stage) at refl is
 
 -- what is found for a worker
-told-worker : (line : List InLine) (w : ℕ) (x : Execution) → found worker w (executions_listed line) ≡ Some x
+told-worker : (line : List NumberedWork) (w : ℕ) (x : Execution) → found worker w (executions_listed line) ≡ Some x
     → (x.worker ≡ w) × (runner_at line x.work ≡ Some w)
 told-worker line w x is =
     let its : x.worker ≡ w = found-number worker w (executions_listed line) x is in
     (its, found-All worker (λ y. runner_at line y.work ≡ Some y.worker) w (executions_listed line) x (runs line) is ∙ ap (λ v. Some v) its)
 
-pub found-worker : (line : List InLine) → AreApart line → (n w : ℕ) → runner_at line n ≡ Some w → found worker w (executions_listed line) ≡ Some (execution w n)
+pub found-worker : (line : List NumberedWork) → AreApart line → (n w : ℕ) → runner_at line n ≡ Some w
+    → found worker w (executions_listed line) ≡ Some (execution w n)
 found-worker line apart n w is =
     let here : found executed_work n (executions_listed line) ≡ Some (execution w n) = found-work line n ∙ ap (option_map (λ v. execution v n)) is in
     let there = some (found worker w (executions_listed line)) (found-other executed_work worker n (executions_listed line) (execution w n) here) in
@@ -81,10 +82,10 @@ found-worker line apart n w is =
     there.1 ∙ ap (λ v. Some (execution v there.0.work)) told.0 ∙ ap (λ k. Some (execution w k)) one
 
 -- a worker that executes nothing
-pub no-worker : (line : List InLine) (w : ℕ) → found worker w (executions_listed line) ≡ None → AreApart line → (n : ℕ) → runner_at line n ≡ Some w → ⊥
+pub no-worker : (line : List NumberedWork) (w : ℕ) → found worker w (executions_listed line) ≡ None → AreApart line → (n : ℕ) → runner_at line n ≡ Some w → ⊥
 no-worker line w none apart n is = let here = found-worker line apart n w is in cc
 
-found-none : (line : List InLine) (w : ℕ) → ((n : ℕ) → runner_at line n ≡ Some w → ⊥) → found worker w (executions_listed line) ≡ None
+found-none : (line : List NumberedWork) (w : ℕ) → ((n : ℕ) → runner_at line n ≡ Some w → ⊥) → found worker w (executions_listed line) ≡ None
 found-none line w idle = by (found worker w (executions_listed line)) refl
   where
     by : (o : Option Execution) → found worker w (executions_listed line) ≡ o → o ≡ None
@@ -92,7 +93,7 @@ found-none line w idle = by (found worker w (executions_listed line)) refl
     by (Some x) is = absurd (idle x.work (told-worker line w x is).1)
 
 -- BOTH
-pub has-work : (line : List InLine) → AreApart line → (n : ℕ) → has executed_work n (executions line) ≡ is_some (runner_at line n)
+pub has-work : (line : List NumberedWork) → AreApart line → (n : ℕ) → has executed_work n (executions line) ≡ is_some (runner_at line n)
 has-work line apart n = has-as_map executed_work worker n (executions_listed line) each ∙ has-found executed_work n (executions_listed line) ∙ ap is_some (found-work line n)
     ∙ by (runner_at line n)
   where
@@ -105,14 +106,14 @@ has-work line apart n = has-as_map executed_work worker n (executions_listed lin
         (runs line) is)
 
 -- a worker executes the work of the number n, where its number is told
-pub executed : (line : List InLine) (w n : ℕ) → option_map executed_work (found worker w (executions line)) ≡ Some n → runner_at line n ≡ Some w
+pub executed : (line : List NumberedWork) (w n : ℕ) → option_map executed_work (found worker w (executions line)) ≡ Some n → runner_at line n ≡ Some w
 executed line w n is = by (found worker w (executions_listed line)) refl (sym (ap (option_map executed_work) (found-as_map worker w (executions_listed line))) ∙ is)
   where
     by : (o : Option Execution) → found worker w (executions_listed line) ≡ o → option_map executed_work o ≡ Some n → runner_at line n ≡ Some w
     by None here told = let no : ⊥ = cc in absurd no
     by (Some x) here told = let one : x.work ≡ n = cc in ap (runner_at line) (sym one) ∙ (told-worker line w x here).1
 
-pub idle-worker : (line : List InLine) (w : ℕ) → AreApart line → option_map executed_work (found worker w (executions line)) ≡ None → (n : ℕ)
+pub idle-worker : (line : List NumberedWork) (w : ℕ) → AreApart line → option_map executed_work (found worker w (executions line)) ≡ None → (n : ℕ)
     → runner_at line n ≡ Some w → ⊥
 idle-worker line w apart is = by (found worker w (executions_listed line)) refl (sym (ap (option_map executed_work) (found-as_map worker w
     (executions_listed line))) ∙ is)
@@ -122,7 +123,7 @@ idle-worker line w apart is = by (found worker w (executions_listed line)) refl 
     by (Some x) here told = let no : ⊥ = cc in absurd no
 
 -- A WORKER STARTS
-module _ (line others : List InLine) (n w : ℕ) (apart : AreApart line) (idle : (m : ℕ) → runner_at line m ≡ Some w
+module _ (line others : List NumberedWork) (n w : ℕ) (apart : AreApart line) (idle : (m : ℕ) → runner_at line m ≡ Some w
     → ⊥) (waited : runner_at line n ≡ None) (at : (m : ℕ) → runner_at others m ≡ cond (n == m) (Some w) (runner_at line m)) where
   pub apart-started : AreApart others
   apart-started a b v here there = by (n == a) (n == b) refl refl (sym (at a) ∙ here) (sym (at b) ∙ there)
@@ -163,7 +164,8 @@ module _ (line others : List InLine) (n w : ℕ) (apart : AreApart line) (idle :
 
 -- A WORKER FINISHES
 -- one work fewer runs
-pub apart-less : (line others : List InLine) (n : ℕ) → AreApart line → ((m : ℕ) → runner_at others m ≡ cond (n == m) None (runner_at line m)) → AreApart others
+pub apart-less : (line others : List NumberedWork) (n : ℕ) → AreApart line → ((m : ℕ) → runner_at others m ≡ cond (n == m) None (runner_at line m))
+    → AreApart others
 apart-less line others n apart at a b v here there = by (n == a) (n == b) (sym (at a) ∙ here) (sym (at b) ∙ there)
   where
     by : (p q : Bool) → cond p None (runner_at line a) ≡ Some v → cond q None (runner_at line b) ≡ Some v → a ≡ b
@@ -171,7 +173,7 @@ apart-less line others n apart at a b v here there = by (n == a) (n == b) (sym (
     by false true first second = let no : ⊥ = cc in absurd no
     by false false first second = apart a b v first second
 
-module _ (line others : List InLine) (n w : ℕ) (apart : AreApart line) (is : runner_at line n ≡ Some w) (at : (m : ℕ)
+module _ (line others : List NumberedWork) (n w : ℕ) (apart : AreApart line) (is : runner_at line n ≡ Some w) (at : (m : ℕ)
     → runner_at others m ≡ cond (n == m) None (runner_at line m)) where
   pub executions-finished : executions others ≡ filter (λ x. not (x.worker == w)) (executions line)
   executions-finished =

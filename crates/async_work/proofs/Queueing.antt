@@ -9,122 +9,126 @@ use Rattle.napi_types.specs.declared.call.JobSpec.{JobSpec}
 use Rattle.napi_types.specs.plain.Lists.{found, has_number, one}
 use Rattle.napi_types.proofs.plain.Found.{IsRising, same-self, same-tells, found-same, found-filter, rising-filter, has-found, turned}
 use Rattle.napi_types.proofs.plain.Maps.{all-among}
-use Rattle.async_work.specs.declared.line.EndedWork as code
-use Rattle.async_work.specs.Line.{LineStage, Waits, Runs, Ended, Done, InLine, in_line, outcome_seen, outcomes_seen, waiting_job, is_done_in_line, with_stage, with_stage_at, line_work_at, line_stage_at, line_id_at, waits, listed_number, waiting_works}
+use Rattle.async_work.specs.declared.queue.EndedWork as code
+use Rattle.async_work.specs.Queue.{QueueStage, Waits, Runs, Ended, Done, NumberedWork, numbered_work, outcome_seen, outcomes_seen, waiting_job, is_done_in_queue, with_stage, with_stage_at, queue_work_at, queue_stage_at, queue_id_at, waits, listed_number, waiting_works}
 use Rattle.napi_types.proofs.plain.Counted.{element-set, element-push, element-past, listed-push, listed-rising, found-listed}
 use Rattle.async_work.proofs.CountingWorks.{length-without}
 
--- a work in line has its stage, and its id as long as its completion has not begun
-pub stage-in_line : (id : ℕ) (s : LineStage) → (in_line id s).stage ≡ s
+-- a work in the queue has its stage, and its id as long as its completion has not begun
+pub stage-in_line : (id : ℕ) (s : QueueStage) → (numbered_work id s).stage ≡ s
 stage-in_line id (Waits job) = refl
 stage-in_line id (Runs w) = refl
 stage-in_line id Ended = refl
 stage-in_line id Done = refl
 
-pub id-in_line : (id : ℕ) (s : LineStage) → is_done_in_line s ≡ false → (in_line id s).id ≡ id
+pub id-in_line : (id : ℕ) (s : QueueStage) → is_done_in_queue s ≡ false → (numbered_work id s).id ≡ id
 id-in_line id (Waits job) unfinished = refl
 id-in_line id (Runs w) unfinished = refl
 id-in_line id Ended unfinished = refl
 id-in_line id Done unfinished = let no : ⊥ = cc in absurd no
 
--- the line is the same but for how far the work of one number has come
-pub record Restaged (line others : List InLine) (n : ℕ) (e : InLine) (s : LineStage) : Type 0 where
-  pub there : line_work_at line n ≡ Some e
-  pub at : (m : ℕ) → line_work_at others m ≡ cond (n == m) (Some (with_stage s e)) (line_work_at line m)
+-- the queue is the same but for how far the work of one number has come
+pub record Restaged (line others : List NumberedWork) (n : ℕ) (e : NumberedWork) (s : QueueStage) : Type 0 where
+  pub there : queue_work_at line n ≡ Some e
+  pub at : (m : ℕ) → queue_work_at others m ≡ cond (n == m) (Some (with_stage s e)) (queue_work_at line m)
   pub long : length others ≡ length line
 
-pub restaged : (line : List InLine) (n : ℕ) (e : InLine) (s : LineStage) → line_work_at line n ≡ Some e
+pub restaged : (line : List NumberedWork) (n : ℕ) (e : NumberedWork) (s : QueueStage) → queue_work_at line n ≡ Some e
     → Restaged line (set line (n - 1) (with_stage s e)) n e s
 restaged line n e s there = record { there = there; at = element-set line n e (with_stage s e) there; long = length-set line (n - 1) (with_stage s e) }
 
-module _ (line others : List InLine) (n : ℕ) (e : InLine) (s : LineStage) (change : Restaged line others n e s) where
-  pub stage-restaged : {B : Type 0} (f : LineStage → B) (m : ℕ) → f (line_stage_at others m) ≡ cond (n == m) (f s) (f (line_stage_at line m))
-  stage-restaged {B} f m = ap (λ o. f (option_map_or (λ (x : InLine). x.stage) o Done)) (change.at m) ∙ by (n == m)
+module _ (line others : List NumberedWork) (n : ℕ) (e : NumberedWork) (s : QueueStage) (change : Restaged line others n e s) where
+  pub stage-restaged : {B : Type 0} (f : QueueStage → B) (m : ℕ) → f (queue_stage_at others m) ≡ cond (n == m) (f s) (f (queue_stage_at line m))
+  stage-restaged {B} f m = ap (λ o. f (option_map_or (λ (x : NumberedWork). x.stage) o Done)) (change.at m) ∙ by (n == m)
     where
-      by : (b : Bool) → f (option_map_or (λ (x : InLine). x.stage) (cond b (Some (with_stage s e)) (line_work_at line m)) Done) ≡ cond b (f s) (f (line_stage_at line m))
+      by : (b : Bool) → f (option_map_or (λ (x : NumberedWork). x.stage) (cond b (Some (with_stage s e)) (queue_work_at line m)) Done) ≡ cond b (f s)
+          (f (queue_stage_at line m))
       by true = ap f (stage-in_line e.id s)
       by false = refl
 
-  pub id-restaged : is_done_in_line s ≡ false → (m : ℕ) → line_id_at others m ≡ line_id_at line m
-  id-restaged unfinished m = ap (option_map (λ (x : InLine). x.id)) (change.at m) ∙ by (n == m) refl
+  pub id-restaged : is_done_in_queue s ≡ false → (m : ℕ) → queue_id_at others m ≡ queue_id_at line m
+  id-restaged unfinished m = ap (option_map (λ (x : NumberedWork). x.id)) (change.at m) ∙ by (n == m) refl
     where
-      by : (b : Bool) → (n == m) ≡ b → option_map (λ (x : InLine). x.id) (cond b (Some (with_stage s e)) (line_work_at line m)) ≡ line_id_at line m
+      by : (b : Bool) → (n == m) ≡ b → option_map (λ (x : NumberedWork). x.id) (cond b (Some (with_stage s e)) (queue_work_at line m)) ≡ queue_id_at line m
       by true same =
           ap (λ i. Some i) (id-in_line e.id s unfinished)
-          ∙ sym (ap (λ k. line_id_at line k) (sym (same-tells n m same)) ∙ ap (option_map (λ (x : InLine). x.id)) change.there)
+          ∙ sym (ap (λ k. queue_id_at line k) (sym (same-tells n m same)) ∙ ap (option_map (λ (x : NumberedWork). x.id)) change.there)
       by false same = refl
 
-  pub id-other : (m : ℕ) → (n == m) ≡ false → line_id_at others m ≡ line_id_at line m
-  id-other m apart = ap (option_map (λ (x : InLine). x.id)) (change.at m ∙ ap (λ b. cond b (Some (with_stage s e)) (line_work_at line m)) apart)
+  pub id-other : (m : ℕ) → (n == m) ≡ false → queue_id_at others m ≡ queue_id_at line m
+  id-other m apart = ap (option_map (λ (x : NumberedWork). x.id)) (change.at m ∙ ap (λ b. cond b (Some (with_stage s e)) (queue_work_at line m)) apart)
 
-  pub stage-before : line_stage_at line n ≡ e.stage
-  stage-before = ap (λ o. option_map_or (λ (x : InLine). x.stage) o Done) change.there
+  pub stage-before : queue_stage_at line n ≡ e.stage
+  stage-before = ap (λ o. option_map_or (λ (x : NumberedWork). x.stage) o Done) change.there
 
-pub entry-push : (line : List InLine) (e : InLine) (m : ℕ) → line_work_at (line ++ e ∷ []) m ≡ cond (length line + 1 == m) (Some e) (line_work_at line m)
+pub entry-push : (line : List NumberedWork) (e : NumberedWork) (m : ℕ)
+    → queue_work_at (line ++ e ∷ []) m ≡ cond (length line + 1 == m) (Some e) (queue_work_at line m)
 entry-push line e m = element-push line e m
 
-pub stage-push : {B : Type 0} (f : LineStage → B) (line : List InLine) (e : InLine) (m : ℕ)
-    → f (line_stage_at (line ++ e ∷ []) m) ≡ cond (length line + 1 == m) (f e.stage) (f (line_stage_at line m))
-stage-push {B} f line e m = ap (λ o. f (option_map_or (λ (x : InLine). x.stage) o Done)) (element-push line e m) ∙ by (length line + 1 == m)
+pub stage-push : {B : Type 0} (f : QueueStage → B) (line : List NumberedWork) (e : NumberedWork) (m : ℕ)
+    → f (queue_stage_at (line ++ e ∷ []) m) ≡ cond (length line + 1 == m) (f e.stage) (f (queue_stage_at line m))
+stage-push {B} f line e m = ap (λ o. f (option_map_or (λ (x : NumberedWork). x.stage) o Done)) (element-push line e m) ∙ by (length line + 1 == m)
   where
-    by : (b : Bool) → f (option_map_or (λ (x : InLine). x.stage) (cond b (Some e) (line_work_at line m)) Done) ≡ cond b (f e.stage) (f (line_stage_at line m))
+    by : (b : Bool) → f (option_map_or (λ (x : NumberedWork). x.stage) (cond b (Some e) (queue_work_at line m)) Done) ≡ cond b (f e.stage)
+        (f (queue_stage_at line m))
     by true = refl
     by false = refl
 
--- what no work has whose completion has begun is had within the line
-pub stage-past : {B : Type 0} (f : LineStage → B) (line : List InLine) (m : ℕ) → length line < m → f (line_stage_at line m) ≡ f Done
-stage-past f line m past = ap (λ o. f (option_map_or (λ (x : InLine). x.stage) o Done)) (element-past line m past)
+-- what no work has whose completion has begun is had within the queue
+pub stage-past : {B : Type 0} (f : QueueStage → B) (line : List NumberedWork) (m : ℕ) → length line < m → f (queue_stage_at line m) ≡ f Done
+stage-past f line m past = ap (λ o. f (option_map_or (λ (x : NumberedWork). x.stage) o Done)) (element-past line m past)
 
-pub waits-within : (line : List InLine) (n : ℕ) → waits line n ≡ true → (e : InLine) × (s : JobSpec) × (line_work_at line n ≡ Some e) ×
+pub waits-within : (line : List NumberedWork) (n : ℕ) → waits line n ≡ true → (e : NumberedWork) × (s : JobSpec) × (queue_work_at line n ≡ Some e) ×
     (waiting_job e.stage ≡ Some s)
-waits-within line n is = by (line_work_at line n) refl is
+waits-within line n is = by (queue_work_at line n) refl is
   where
-    job : (e : InLine) (o : Option JobSpec) → line_work_at line n ≡ Some e → waiting_job e.stage ≡ o → is_some o ≡ true
-        → (x : InLine) × (s : JobSpec) × (line_work_at line n ≡ Some x) × (waiting_job x.stage ≡ Some s)
+    job : (e : NumberedWork) (o : Option JobSpec) → queue_work_at line n ≡ Some e → waiting_job e.stage ≡ o → is_some o ≡ true
+        → (x : NumberedWork) × (s : JobSpec) × (queue_work_at line n ≡ Some x) × (waiting_job x.stage ≡ Some s)
     job e None there told passes = let no : ⊥ = cc in absurd no
     job e (Some s) there told passes = (e, s, there, told)
 
-    by : (o : Option InLine) → line_work_at line n ≡ o → is_some (waiting_job (option_map_or (λ (x : InLine). x.stage) o Done)) ≡ true
-        → (x : InLine) × (s : JobSpec) × (line_work_at line n ≡ Some x) × (waiting_job x.stage ≡ Some s)
+    by : (o : Option NumberedWork) → queue_work_at line n ≡ o → is_some (waiting_job (option_map_or (λ (x : NumberedWork). x.stage) o Done)) ≡ true
+        → (x : NumberedWork) × (s : JobSpec) × (queue_work_at line n ≡ Some x) × (waiting_job x.stage ≡ Some s)
     by None there passes = let no : ⊥ = cc in absurd no
     by (Some e) there passes = job e (waiting_job e.stage) there refl passes
 
 -- THOSE THAT WAIT
-keeps-number : (n : ℕ) (e : InLine) (m : ℕ) → listed_number n e ≡ Some m → m ≡ n
+keeps-number : (n : ℕ) (e : NumberedWork) (m : ℕ) → listed_number n e ≡ Some m → m ≡ n
 keeps-number n e m is = by (waiting_job e.stage) is
   where
     by : (o : Option JobSpec) → option_map (λ _. n) o ≡ Some m → m ≡ n
     by None told = let no : ⊥ = cc in absurd no
     by (Some s) told = cc
 
-pub rising-waiting : (line : List InLine) → IsRising (λ (m : ℕ). m) (waiting_works line)
+pub rising-waiting : (line : List NumberedWork) → IsRising (λ (m : ℕ). m) (waiting_works line)
 rising-waiting line = listed-rising listed_number (λ m. m) keeps-number 1 line
 
-pub found-waiting : (line : List InLine) (n : ℕ) → found (λ m. m) n (waiting_works line) ≡ cond (waits line n) (Some n) None
-found-waiting line n = found-listed listed_number (λ m. m) keeps-number n line ∙ by (line_work_at line n)
+pub found-waiting : (line : List NumberedWork) (n : ℕ) → found (λ m. m) n (waiting_works line) ≡ cond (waits line n) (Some n) None
+found-waiting line n = found-listed listed_number (λ m. m) keeps-number n line ∙ by (queue_work_at line n)
   where
     job : (o : Option JobSpec) → option_map (λ _. n) o ≡ cond (is_some o) (Some n) None
     job None = refl
     job (Some s) = refl
 
-    by : (o : Option InLine) → option_and_then (listed_number n) o ≡ cond (is_some (waiting_job (option_map_or (λ (x : InLine). x.stage) o Done))) (Some n) None
+    by : (o : Option NumberedWork) → option_and_then (listed_number n) o ≡ cond (is_some (waiting_job (option_map_or (λ (x : NumberedWork). x.stage) o Done)))
+        (Some n) None
     by None = refl
     by (Some e) = job (waiting_job e.stage)
 
-pub has-waiting : (line : List InLine) (n : ℕ) → has_number n (waiting_works line) ≡ waits line n
+pub has-waiting : (line : List NumberedWork) (n : ℕ) → has_number n (waiting_works line) ≡ waits line n
 has-waiting line n = has-found (λ m. m) n (waiting_works line) ∙ ap is_some (found-waiting line n) ∙ by (waits line n)
   where
     by : (b : Bool) → is_some (cond b (Some n) None) ≡ b
     by true = refl
     by false = refl
 
-pub waiting-same : (line others : List InLine) → ((m : ℕ) → waits others m ≡ waits line m) → waiting_works others ≡ waiting_works line
+pub waiting-same : (line others : List NumberedWork) → ((m : ℕ) → waits others m ≡ waits line m) → waiting_works others ≡ waiting_works line
 waiting-same line others same =
     found-same (λ m. m) (waiting_works others) (waiting_works line) (rising-waiting others) (rising-waiting line)
     (λ m. found-waiting others m ∙ ap (λ b. cond b (Some m) None) (same m) ∙ sym (found-waiting line m))
 
 -- one waits no longer
-pub waiting-less : (line others : List InLine) (n : ℕ) → ((m : ℕ) → waits others m ≡ cond (n == m) false (waits line m))
+pub waiting-less : (line others : List NumberedWork) (n : ℕ) → ((m : ℕ) → waits others m ≡ cond (n == m) false (waits line m))
     → waiting_works others ≡ filter (λ m. not (m == n)) (waiting_works line)
 waiting-less line others n less =
     found-same (λ m. m) (waiting_works others) (filter (λ m. not (m == n)) (waiting_works line)) (rising-waiting others) (rising-filter (λ m. m) (λ m. not (m == n))
@@ -137,7 +141,7 @@ waiting-less line others n less =
     by m false = refl
 
 -- one more waits
-pub waiting-more : (line : List InLine) (e : InLine) (s : JobSpec) → waiting_job e.stage ≡ Some s
+pub waiting-more : (line : List NumberedWork) (e : NumberedWork) (s : JobSpec) → waiting_job e.stage ≡ Some s
     → waiting_works (line ++ e ∷ []) ≡ waiting_works line ++ one (length line + 1)
 waiting-more line e s is = listed-push listed_number 1 line e ∙ ap (λ o. waiting_works line ++ cons_option (option_map (λ _. 1 + length line) o) []) is
     ∙ ap (λ n. waiting_works line ++ n ∷ []) (next (length line))
@@ -145,14 +149,14 @@ waiting-more line e s is = listed-push listed_number 1 line e ∙ ap (λ o. wait
     next : (n : ℕ) → 1 + n ≡ n + 1
     next n = omega arith
 
-pub waiting-none : (line : List InLine) → ((m : ℕ) → waits line m ≡ false) → waiting_works line ≡ []
+pub waiting-none : (line : List NumberedWork) → ((m : ℕ) → waits line m ≡ false) → waiting_works line ≡ []
 waiting-none line none = found-same (λ m. m) (waiting_works line) [] (rising-waiting line) tt (λ m. found-waiting line m ∙ ap (λ b. cond b (Some m) None) (none m))
 
 upper : (m n : ℕ) → (m == n) ≡ false → nat_lt m n ≡ false → n < m
 upper m n h k = grind arith
 
 -- the first that waits
-pub waiting-first : (line : List InLine) (n : ℕ) → waits line n ≡ true → ((m : ℕ) → m < n → waits line m ≡ false)
+pub waiting-first : (line : List NumberedWork) (n : ℕ) → waits line n ≡ true → ((m : ℕ) → m < n → waits line m ≡ false)
     → waiting_works line ≡ n ∷ filter (λ m. not (m == n)) (waiting_works line)
 waiting-first line n here passed =
     found-same (λ m. m) (waiting_works line) (n ∷ rest) (rising-waiting line) (
@@ -180,7 +184,7 @@ waiting-first line n here passed =
     by m true same = let one : n ≡ m = same-tells n m same in ap (λ k. cond (waits line k) (Some k) None) (sym one) ∙ ap (λ b. cond b (Some n) None) here
     by m false same = ap (λ b. cond (not b) (cond (waits line m) (Some m) None) None) (sym (turned m n ∙ same)) ∙ sym (found-rest m)
 
-pub head-first : (line : List InLine) (n : ℕ) (ns : List ℕ) → waiting_works line ≡ n ∷ ns → waits line n ≡ true
+pub head-first : (line : List NumberedWork) (n : ℕ) (ns : List ℕ) → waiting_works line ≡ n ∷ ns → waits line n ≡ true
 head-first line n ns is = sym (has-waiting line n) ∙ ap (has_number n) is ∙ by (n == n) (same-self n)
   where
     by : (b : Bool) → b ≡ true → (b || has_number n ns) ≡ true
@@ -188,20 +192,22 @@ head-first line n ns is = sym (has-waiting line n) ∙ ap (has_number n) is ∙ 
     by false h = let no : ⊥ = cc in absurd no
 
 -- a work waits that the pool says to
-pub waits-of : (line : List InLine) (ns : List ℕ) (n : ℕ) → waiting_works line ≡ ns → has_number n ns ≡ true → waits line n ≡ true
+pub waits-of : (line : List NumberedWork) (ns : List ℕ) (n : ℕ) → waiting_works line ≡ ns → has_number n ns ≡ true → waits line n ≡ true
 waits-of line ns n are here = sym (has-waiting line n) ∙ ap (has_number n) are ∙ here
 
 -- how many wait where one waits no longer
-pub length-less : (line : List InLine) (n : ℕ) → waits line n ≡ true → length (filter (λ m. not (m == n)) (waiting_works line)) + 1 ≡ length (waiting_works line)
+pub length-less : (line : List NumberedWork) (n : ℕ) → waits line n ≡ true
+    → length (filter (λ m. not (m == n)) (waiting_works line)) + 1 ≡ length (waiting_works line)
 length-less line n is = length-without (λ m. m) n (waiting_works line) n (rising-waiting line) (found-waiting line n ∙ ap (λ b. cond b (Some n) None) is)
 
 -- the work that stands there comes further
-pub with_stage_at-there : (line : List InLine) (n : ℕ) (s : LineStage) (e : InLine) → line_work_at line n ≡ Some e → with_stage_at n s line ≡ set line (n - 1) (with_stage s e)
+pub with_stage_at-there : (line : List NumberedWork) (n : ℕ) (s : QueueStage) (e : NumberedWork) → queue_work_at line n ≡ Some e
+    → with_stage_at n s line ≡ set line (n - 1) (with_stage s e)
 with_stage_at-there line zero s e is = let no : ⊥ = cc in absurd no
 with_stage_at-there line (suc at) s e is =
     let place : suc at - 1 ≡ at = omega arith in
-    ap (λ k. set line (suc at - 1) (with_stage s (slice_index_or line k (in_line 0 Done)))) place
-    ∙ ap (λ x. set line (suc at - 1) (with_stage s x)) (get_or_from_slice_get line at e (in_line 0 Done) is)
+    ap (λ k. set line (suc at - 1) (with_stage s (slice_index_or line k (numbered_work 0 Done)))) place
+    ∙ ap (λ x. set line (suc at - 1) (with_stage s x)) (get_or_from_slice_get line at e (numbered_work 0 Done) is)
 
 -- the work of which this is known
 pub some-is : {A : Type 0} (o : Option A) (x : A) → o ≡ Some x → IsSome o

@@ -1,4 +1,4 @@
--- What a pool says of a work is what its place and the line say.
+-- What a pool says of a work is what its place and the queue say.
 use Rattle.std.proofs.Common.{◌≡◌, ◌∙◌, ℕ, ◌==◌, ◌||◌, Bool, true, false, cond, List, [], ◌∷◌, map, Option, Some, None, IfSome, is_some, option_map, refl, ap, sym, subst}
 use Rattle.std.specs.List.{list_any}
 use Rattle.std.specs.Option.{option_and_then, option_map_or, is_none}
@@ -11,8 +11,8 @@ use Rattle.napi_types.specs.parts.Pool.{WorkPool, work_at, work_numbered, number
 use Rattle.napi_types.specs.parts.Works.{Work, WorkState, Created, Queued, Running, Finished, Completed, Outcome, is_created, is_deletable}
 use Rattle.napi_types.proofs.plain.Found.{IsRising}
 use Rattle.async_work.specs.WorkPlaces.{Placed, place_at, work_of}
-use Rattle.async_work.specs.Line.{LineStage, Waits, Runs, Ended, Done, InLine, CameOut, outcome_of, outcome_status, waiting_job, runner, has_ended, is_done_in_line, stage_state, line_work_at, line_stage_at, line_id_at, waits, ended_at}
-use Rattle.async_work.specs.KeptPool.{pool_of, StandsInLine, IsNumberOf, IsKeptPool}
+use Rattle.async_work.specs.Queue.{QueueStage, Waits, Runs, Ended, Done, NumberedWork, CameOut, outcome_of, outcome_status, waiting_job, runner, has_ended, is_done_in_queue, stage_state, queue_work_at, queue_stage_at, queue_id_at, waits, ended_at}
+use Rattle.async_work.specs.KeptPool.{pool_of, StandsInQueue, IsNumberOf, IsKeptPool}
 use Rattle.async_work.specs.declared.pool.WorkProgress.{WorkProgress}
 use Rattle.async_work.specs.declared.pool.WorkProgress.TheVariants as state
 use Rattle.async_work.specs.Picking.{unspent_spec}
@@ -40,7 +40,8 @@ has-outcome : (finished : List CameOut) (n : ℕ) → has (λ (o : Outcome). o.w
 has-outcome [] n = refl
 has-outcome (o ∷ os) n = ap (λ b. (o.number == n) || b) (has-outcome os n)
 
-module _ (places : List (HeldValue Placed)) (issued : List ℕ) (line : List InLine) (finished : List CameOut) (first created queued running : ℕ) (closing : Bool)
+module _ (places : List (HeldValue Placed)) (issued : List ℕ) (line : List NumberedWork) (finished : List CameOut) (first created queued running : ℕ)
+    (closing : Bool)
     (spare finished_places : ℕ)
     (kept : IsKeptPool places issued line finished first created queued running closing spare finished_places) where
   abbrev pool : WorkPool
@@ -48,10 +49,10 @@ module _ (places : List (HeldValue Placed)) (issued : List ℕ) (line : List InL
 
   pub stands-at : (n : ℕ) → standing_at pool n ≡ numbered_state line n
   stands-at n =
-      by (line_stage_at line n) _ _ _ (has-waiting line n) (has-work line kept.in_line.apart n) (has-outcome finished n
+      by (queue_stage_at line n) _ _ _ (has-waiting line n) (has-work line kept.numbered_work.apart n) (has-outcome finished n
       ∙ any-counted (λ (o : CameOut). o.number == n) finished (ended_at line n) (kept.came_out.once n))
     where
-      by : (s : LineStage) (a b c : Bool) → a ≡ is_some (waiting_job s) → b ≡ is_some (runner s) → c ≡ has_ended s
+      by : (s : QueueStage) (a b c : Bool) → a ≡ is_some (waiting_job s) → b ≡ is_some (runner s) → c ≡ has_ended s
           → cond a Queued (cond b Running (cond c Finished Completed)) ≡ stage_state s
       by (Waits spec) a b c is_a is_b is_c = rw is_a refl
       by (Runs w) a b c is_a is_b is_c = rw (is_a, is_b) refl
@@ -88,18 +89,19 @@ module _ (places : List (HeldValue Placed)) (issued : List ℕ) (line : List InL
       by (Some p) = refl
 
   -- the work of a number stands at the place of its id
-  pub numbered-at : (n : ℕ) (e : InLine) → IsRising (λ h. h.number) places → line_work_at line n ≡ Some e → is_done_in_line e.stage ≡ false
-      → (stands : StandsInLine places n e) → work_numbered pool n ≡ Some (work_of e.id stands.place)
+  pub numbered-at : (n : ℕ) (e : NumberedWork) → IsRising (λ h. h.number) places → queue_work_at line n ≡ Some e → is_done_in_queue e.stage ≡ false
+      → (stands : StandsInQueue places n e) → work_numbered pool n ≡ Some (work_of e.id stands.place)
   numbered-at n e rises at unfinished stands = numbered-work places e.id n stands.place rises stands.there stands.numbered only
     where
       only : (m : ℕ) (q : Placed) → place_at places m ≡ Some q → q.number ≡ Some n → m ≡ e.id
       only m q there is =
           let number = if-some (λ k. IsNumberOf line m k) q.number n is (kept.linked.named m q there) in
-          let named : line_id_at line n ≡ Some m = number.1 (ap is_done_in_line (stage-of line n e at) ∙ unfinished) in
-          same-some m e.id (sym named ∙ ap (option_map (λ (x : InLine). x.id)) at)
+          let named : queue_id_at line n ≡ Some m = number.1 (ap is_done_in_queue (stage-of line n e at) ∙ unfinished) in
+          same-some m e.id (sym named ∙ ap (option_map (λ (x : NumberedWork). x.id)) at)
 
 -- by the state that is told of the place of an id
-module _ (places : List (HeldValue Placed)) (line : List InLine) (id : ℕ) (s : WorkState) (is : Some s ≡ option_map (place_state line) (place_at places id)) where
+module _ (places : List (HeldValue Placed)) (line : List NumberedWork) (id : ℕ) (s : WorkState) (is : Some s ≡ option_map (place_state line)
+    (place_at places id)) where
   pub state-place : (p : Placed) × (place_at places id ≡ Some p) × (place_state line p ≡ s)
   state-place = by (place_at places id) refl is
     where
@@ -108,10 +110,10 @@ module _ (places : List (HeldValue Placed)) (line : List InLine) (id : ℕ) (s :
       by None at told = let no : ⊥ = cc in absurd no
       by (Some p) at told = (p, at, sym (same-some s (place_state line p) told))
 
-pub created-none : (line : List InLine) (p : Placed) → place_state line p ≡ Created → p.number ≡ None
+pub created-none : (line : List NumberedWork) (p : Placed) → place_state line p ≡ Created → p.number ≡ None
 created-none line p is = by p.number is
   where
-    never : (s : LineStage) → stage_state s ≡ Created → ⊥
+    never : (s : QueueStage) → stage_state s ≡ Created → ⊥
     never (Waits spec) told = cc
     never (Runs w) told = cc
     never Ended told = cc
@@ -119,32 +121,34 @@ created-none line p is = by p.number is
 
     by : (o : Option ℕ) → option_map_or (numbered_state line) o Created ≡ Created → o ≡ None
     by None told = refl
-    by (Some n) told = absurd (never (line_stage_at line n) told)
+    by (Some n) told = absurd (never (queue_stage_at line n) told)
 
 -- where it is created or completed it is not underway
-pub created-done : (line : List InLine) (p : Placed) → place_state line p ≡ Created → (n : ℕ) → p.number ≡ Some n → is_done_in_line (line_stage_at line n) ≡ true
+pub created-done : (line : List NumberedWork) (p : Placed) → place_state line p ≡ Created → (n : ℕ) → p.number ≡ Some n
+    → is_done_in_queue (queue_stage_at line n) ≡ true
 created-done line p is n number = let no : ⊥ = let none = created-none line p is in cc in absurd no
 
-pub completed-done : (line : List InLine) (p : Placed) → place_state line p ≡ Completed → (n : ℕ) → p.number ≡ Some n → is_done_in_line (line_stage_at line n) ≡ true
-completed-done line p is n number = over (line_stage_at line n) (sym (ap (λ o. option_map_or (numbered_state line) o Created) number) ∙ is)
+pub completed-done : (line : List NumberedWork) (p : Placed) → place_state line p ≡ Completed → (n : ℕ) → p.number ≡ Some n
+    → is_done_in_queue (queue_stage_at line n) ≡ true
+completed-done line p is n number = over (queue_stage_at line n) (sym (ap (λ o. option_map_or (numbered_state line) o Created) number) ∙ is)
   where
-    over : (s : LineStage) → stage_state s ≡ Completed → is_done_in_line s ≡ true
+    over : (s : QueueStage) → stage_state s ≡ Completed → is_done_in_queue s ≡ true
     over (Waits spec) told = let no : ⊥ = cc in absurd no
     over (Runs w) told = let no : ⊥ = cc in absurd no
     over Ended told = let no : ⊥ = cc in absurd no
     over Done told = refl
 
-pub queued-waits : (line : List InLine) (p : Placed) (n : ℕ) → place_state line p ≡ Queued → p.number ≡ Some n → waits line n ≡ true
-queued-waits line p n is number = here (line_stage_at line n) (sym (ap (λ o. option_map_or (numbered_state line) o Created) number) ∙ is)
+pub queued-waits : (line : List NumberedWork) (p : Placed) (n : ℕ) → place_state line p ≡ Queued → p.number ≡ Some n → waits line n ≡ true
+queued-waits line p n is number = here (queue_stage_at line n) (sym (ap (λ o. option_map_or (numbered_state line) o Created) number) ∙ is)
   where
-    here : (s : LineStage) → stage_state s ≡ Queued → is_some (waiting_job s) ≡ true
+    here : (s : QueueStage) → stage_state s ≡ Queued → is_some (waiting_job s) ≡ true
     here (Waits spec) told = refl
     here (Runs w) told = let no : ⊥ = cc in absurd no
     here Ended told = let no : ⊥ = cc in absurd no
     here Done told = let no : ⊥ = cc in absurd no
 
-pub deletable-done : (line : List InLine) (p : Placed) (s : WorkState) → place_state line p ≡ s → is_deletable s ≡ true → (n : ℕ) → p.number ≡ Some n
-    → is_done_in_line (line_stage_at line n) ≡ true
+pub deletable-done : (line : List NumberedWork) (p : Placed) (s : WorkState) → place_state line p ≡ s → is_deletable s ≡ true → (n : ℕ) → p.number ≡ Some n
+    → is_done_in_queue (queue_stage_at line n) ≡ true
 deletable-done line p Created is passes = created-done line p is
 deletable-done line p Queued is passes = let no : ⊥ = cc in absurd no
 deletable-done line p Running is passes = let no : ⊥ = cc in absurd no
@@ -152,10 +156,10 @@ deletable-done line p Finished is passes = let no : ⊥ = cc in absurd no
 deletable-done line p Completed is passes = completed-done line p is
 
 -- a work was not queued where it is created
-pub unqueued-created : (line : List InLine) (p : Placed) (s : WorkState) → place_state line p ≡ s → is_none p.number ≡ is_created s
+pub unqueued-created : (line : List NumberedWork) (p : Placed) (s : WorkState) → place_state line p ≡ s → is_none p.number ≡ is_created s
 unqueued-created line p s is = by p.number ∙ ap is_created is
   where
-    staged : (t : LineStage) → false ≡ is_created (stage_state t)
+    staged : (t : QueueStage) → false ≡ is_created (stage_state t)
     staged (Waits spec) = refl
     staged (Runs w) = refl
     staged Ended = refl
@@ -163,7 +167,7 @@ unqueued-created line p s is = by p.number ∙ ap is_created is
 
     by : (o : Option ℕ) → is_none o ≡ is_created (option_map_or (numbered_state line) o Created)
     by None = refl
-    by (Some n) = staged (line_stage_at line n)
+    by (Some n) = staged (queue_stage_at line n)
 
 -- another state than this one
 pub not-created : (s : WorkProgress) → (s ≡ state.Created → ⊥) → is_created (state_seen s) ≡ false

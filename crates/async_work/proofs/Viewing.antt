@@ -7,7 +7,7 @@ use Rattle.napi_types.specs.plain.Lists.{one, with_record, with_number}
 use Rattle.napi_types.specs.parts.Pool.{WorkPool, executed_by, value_of_work, with_work, without_work, with_queued, cancelled_at, started_from, with_started, finished_at, with_finished, with_completed}
 use Rattle.napi_types.specs.parts.Works.{Work, Execution, Outcome}
 use Rattle.async_work.specs.WorkPlaces.{Placed, with_number_at, works_of}
-use Rattle.async_work.specs.Line.{Runs, Ended, Done, InLine, CameOut, outcome_of, unstarted_outcome, ran_outcome, waiting_job, runner, with_stage, line_work_at, runner_at, waiting_works}
+use Rattle.async_work.specs.Queue.{Runs, Ended, Done, NumberedWork, CameOut, outcome_of, unstarted_outcome, ran_outcome, waiting_job, runner, with_stage, queue_work_at, runner_at, waiting_works}
 use Rattle.async_work.specs.KeptPool.{pool_of, IsKeptPool}
 use Rattle.async_work.proofs.Ids.{works-made, works-deleted, works-queued}
 use Rattle.async_work.proofs.Queueing.{waiting-more, waiting-less}
@@ -22,7 +22,7 @@ same-pool ws vs is js n m qs rs xs ys os us c d a b e f g h i = cc
 outcomes-more : (finished : List CameOut) (o : CameOut) → map outcome_of (finished ++ o ∷ []) ≡ map outcome_of finished ++ one (outcome_of o)
 outcomes-more finished o = map-append outcome_of finished (o ∷ [])
 
-pub view-created : (places others : List (HeldValue Placed)) (issued news : List ℕ) (line : List InLine) (finished : List CameOut) (closing : Bool) (id : ℕ) (p : Placed)
+pub view-created : (places others : List (HeldValue Placed)) (issued news : List ℕ) (line : List NumberedWork) (finished : List CameOut) (closing : Bool) (id : ℕ) (p : Placed)
     → others ≡ with_held id p places → news ≡ with_number id issued → p.number ≡ None
     → pool_of others news line finished closing ≡ with_work id p.spec p.addon p.entry p.payload (pool_of places issued line finished closing)
 view-created places others issued news line finished closing id p is issued_is none =
@@ -30,14 +30,14 @@ view-created places others issued news line finished closing id p is issued_is n
     (record { id = id; spec = p.spec; addon = p.addon; entry = p.entry; payload = p.payload; number = o }) (works_of places)) none)
     issued_is refl refl refl refl refl)
 
-pub view-deleted : (places others : List (HeldValue Placed)) (issued news : List ℕ) (line : List InLine) (finished : List CameOut) (closing : Bool) (id : ℕ)
+pub view-deleted : (places others : List (HeldValue Placed)) (issued news : List ℕ) (line : List NumberedWork) (finished : List CameOut) (closing : Bool) (id : ℕ)
     → others ≡ without_held id places → news ≡ issued
     → pool_of others news line finished closing ≡ without_work id (pool_of places issued line finished closing)
 view-deleted places others issued news line finished closing id is issued_is =
     rw is (same-pool _ _ _ _ _ _ _ _ _ _ _ _ _ _ (works-deleted places id) issued_is refl refl refl refl refl)
 
-pub view-queued : (places others : List (HeldValue Placed)) (issued news : List ℕ) (line lines : List InLine) (finished : List CameOut) (closing : Bool) (id n : ℕ)
-    (spec : JobSpec) (e : InLine) → others ≡ with_number_at id n places → news ≡ issued → lines ≡ line ++ e ∷ []
+pub view-queued : (places others : List (HeldValue Placed)) (issued news : List ℕ) (line lines : List NumberedWork) (finished : List CameOut) (closing : Bool) (id n : ℕ)
+    (spec : JobSpec) (e : NumberedWork) → others ≡ with_number_at id n places → news ≡ issued → lines ≡ line ++ e ∷ []
     → n ≡ length line + 1 → waiting_job e.stage ≡ Some spec
     → pool_of others news lines finished closing ≡ with_queued id (pool_of places issued line finished closing)
 view-queued places others issued news line lines finished closing id n spec e places_are issued_is line_is number waits_for =
@@ -47,10 +47,12 @@ view-queued places others issued news line lines finished closing id n spec e pl
     issued_is (length-append line (e ∷ [])) (waiting-more line e spec waits_for)
     (executions-same line (line ++ e ∷ []) (runner-queued line e spec waits_for)) refl refl)
 
-module _ (places : List (HeldValue Placed)) (issued : List ℕ) (line : List InLine) (finished : List CameOut) (first created queued running : ℕ) (closing : Bool)
+module _ (places : List (HeldValue Placed)) (issued : List ℕ) (line : List NumberedWork) (finished : List CameOut) (first created queued running : ℕ)
+    (closing : Bool)
     (spare finished_places : ℕ)
-    (kept : IsKeptPool places issued line finished first created queued running closing spare finished_places) (lines : List InLine) (n : ℕ) (e : InLine)
-    (there : line_work_at line n ≡ Some e) where
+    (kept : IsKeptPool places issued line finished first created queued running closing spare finished_places) (lines : List NumberedWork) (n : ℕ)
+    (e : NumberedWork)
+    (there : queue_work_at line n ≡ Some e) where
   pub view-started : (w : ℕ) (job : JobSpec) (ns : List ℕ) → lines ≡ set line (n - 1) (with_stage (Runs w) e) → waiting_job e.stage ≡ Some job
       → executed_by (pool_of places issued line finished closing) w ≡ None
       → waiting_works line ≡ n ∷ ns → filter (λ m. not (m == n)) (waiting_works line) ≡ ns → pool_of places issued lines finished closing ≡ with_started w
@@ -81,7 +83,7 @@ module _ (places : List (HeldValue Placed)) (issued : List ℕ) (line : List InL
       rw (is, out_is) (same-pool _ _ _ _ _ _ _ _ _ _ _ _ _ _ refl refl (length-set line (n - 1) (with_stage Ended e))
       (waiting-still places issued line finished first created queued running closing spare finished_places kept lines n e there Ended refl
       (only-runs e.stage w runs).started)
-      (executions-finished line (set line (n - 1) (with_stage Ended e)) n w kept.in_line.apart runs_here
+      (executions-finished line (set line (n - 1) (with_stage Ended e)) n w kept.numbered_work.apart runs_here
       (fewer-run places issued line finished first created queued running closing spare finished_places kept lines n e there Ended refl))
       (outcomes-more finished o ∙ ap (λ x. map outcome_of finished ++ one (outcome_of x)) o_is) refl)
       ∙ ap (λ x. finished_at w x (pool_of places issued line finished closing)) (sym executes)

@@ -1,7 +1,7 @@
 pub mod Draining
 pub mod Executing
 pub mod KeptPool
-pub mod Line
 pub mod Picking
+pub mod Queue
 pub mod WorkPlaces
 pub mod WorkStates

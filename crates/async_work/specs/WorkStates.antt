@@ -1,8 +1,8 @@
--- How far a work has come, by its place and by the line.
+-- How far a work has come, by its place and by the queue.
 use Rattle.std.specs.Prelude.{ℕ, List, Option, Some, None}
 use Rattle.std.specs.Option.{option_map_or}
 use Rattle.napi_types.specs.parts.Works.{WorkState, Created, Queued, Running, Finished, Completed}
-use Rattle.async_work.specs.Line.{InLine, line_stage_at, stage_state}
+use Rattle.async_work.specs.Queue.{NumberedWork, queue_stage_at, stage_state}
 use Rattle.async_work.specs.WorkPlaces.{Placed}
 use Rattle.async_work.specs.declared.pool.WorkProgress.{WorkProgress}
 use Rattle.async_work.specs.declared.pool.WorkProgress.TheVariants as state
@@ -19,9 +19,9 @@ state_number (state.Queued n) = Some n
 state_number _ = None
 
 -- the state of the work of a number
-abbrev pub numbered_state : List InLine → ℕ → WorkState
-numbered_state line n = stage_state (line_stage_at line n)
+abbrev pub numbered_state : List NumberedWork → ℕ → WorkState
+numbered_state line n = stage_state (queue_stage_at line n)
 
 -- the state of a work that stands at a place
-abbrev pub place_state : List InLine → Placed → WorkState
+abbrev pub place_state : List NumberedWork → Placed → WorkState
 place_state line p = option_map_or (numbered_state line) p.number Created

@@ -4,9 +4,9 @@
 #![tactic(auto)]
 
 mod job;
-mod line;
 mod place;
 mod pool;
+mod queue;
 mod room;
 
 pub use job::{Job, Ran, Running};

@@ -7,7 +7,7 @@ use generation_slab::GenerationSlab;
 use napi_types::{JobSpec, Slip};
 
 /// Where the job of a work is. Until the work is queued it is here, with the memory for the line that its completion will be in a list of what was
-/// seen; then both are in the line, under the number of the work.
+/// seen; then both are in the queue, under the number of the work.
 #[derive(Drop)]
 pub(crate) enum Standing<J> {
     Created(J, Slip),

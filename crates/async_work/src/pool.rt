@@ -6,13 +6,13 @@ ghost use Rattle.std.specs.Result.{result_err};
 ghost use Rattle.napi_types.specs.plain.Lists.{has_number, head, tail, is_empty};
 ghost use Rattle.napi_types.specs.parts.Pool.{new_pool, work_at, work_state, work_refusal, number_of_work, new_number, executed_by, value_of_work, completion_info, first_completion, with_work, without_work, with_queued, with_cancelled, cancelled_at, with_started, with_finished, with_completed, drained};
 ghost use Rattle.napi_types.specs.parts.Works.{is_created, is_queued, is_deletable};
-ghost use Rattle.async_work.specs.Line.{outcome_seen, outcome_status, outcome_of, stage_seen, stage_state, Done};
+ghost use Rattle.async_work.specs.Queue.{outcome_seen, outcome_status, outcome_of, stage_seen, stage_state, Done};
 ghost use Rattle.async_work.specs.Picking.{is_closing, is_nothing, picked_work, finished_info, first_to_start, unspent_spec};
 ghost use Rattle.async_work.specs.WorkPlaces.{place_seen, work_of};
 ghost use Rattle.async_work.specs.WorkStates.{state_seen, state_number};
 
-use crate::line::{EndedWork, Ending, WorkLine, WorkStage};
 use crate::place::{self, Standing, WorkPlace};
+use crate::queue::{EndedWork, Ending, WorkQueue, WorkStage};
 use crate::room::reserve_amply;
 use crate::{Job, Ran, Running};
 use generation_slab::GenerationSlab;
@@ -88,8 +88,8 @@ pub struct Pool<J: Job> {
     // The works that were created and not deleted.
     places: GenerationSlab<WorkPlace<J>>,
     // There is room for each work that was created and not queued.
-    line: WorkLine<J>,
-    // So many works in front of the line do not wait.
+    line: WorkQueue<J>,
+    // So many of the first works of the queue are no longer queued.
     first: u64,
     // Works that came out and whose completion has not begun, in the order of finishing. There is room for each work that has not come out.
     finished: VecDeque<EndedWork<J>>,
@@ -105,7 +105,7 @@ impl<J: Job> Model for Pool<J> {
     ghost use Rattle.std.specs.VecDeque.{deque_capacity};
     ghost use Rattle.napi_types.specs.parts.Pool.{WorkPool};
     ghost use Rattle.async_work.specs.KeptPool.{pool_of, IsKeptPool};
-    ghost use Rattle.async_work.specs.Line.{outcomes_seen};
+    ghost use Rattle.async_work.specs.Queue.{outcomes_seen};
     ghost use Rattle.async_work.specs.WorkPlaces.{places_seen};
 
     ghost Value = { WorkPool };
@@ -156,7 +156,7 @@ impl<J: Job> Pool<J> {
     {
         Ok(Pool {
             places: GenerationSlab::new(alloc),
-            line: WorkLine::new(alloc),
+            line: WorkQueue::new(alloc),
             first: 0,
             finished: VecDeque::new(alloc),
             created: 0,
@@ -298,7 +298,7 @@ impl<J: Job> Pool<J> {
     /// The completion begins of the work that came out first. `None` exactly where none is finished. Its job is there exactly where it
     /// was cancelled.
     ///
-    /// Constant time over all completions: the line lets each work go once. It takes no memory.
+    /// Constant time over all completions: the queue lets each work go once. It takes no memory.
     pub fn take_finished(&mut self) -> Option<Finished<J>>
         ensures none { is_none result ≡ is_empty self.old.finished }
         ensures told { option_map finished_info result ≡ first_completion self.old }
@@ -400,7 +400,7 @@ impl<J: Job> Pool<J> {
     }
 }
 
-/// How far a work of this number has come that is at this stage, or no longer kept in line.
+/// How far a work of this number has come that is at this stage, or no longer kept in the queue.
 fn progress_of<J: Job>(stage: Option<&WorkStage<J>>, number: u64) -> WorkProgress
     ensures state { state_seen result ≡ stage_state (option_map_or (λ s. stage_seen J.spec s.now) stage.entry Done) }
     ensures number { IfSome (state_number result) (λ n. n ≡ number) }

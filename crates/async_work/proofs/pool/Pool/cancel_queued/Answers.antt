@@ -1,7 +1,7 @@
 use Rattle.std.proofs.Common.{◌∙◌, Some, ap, refl, arith}
 use Rattle.std.proofs.lemmas.List.{length-map}
 use Rattle.napi_types.specs.parts.Pool.{WorkPool, cancelled_at}
-use Rattle.async_work.specs.Line.{outcome_seen, waiting_job, CameOut, Ended, unstarted_outcome}
+use Rattle.async_work.specs.Queue.{outcome_seen, waiting_job, CameOut, Ended, unstarted_outcome}
 use Rattle.async_work.proofs.KeepingPools.{kept-cancelled, room-to-cancel}
 use Rattle.async_work.proofs.Linking.{stage-of}
 use Rattle.async_work.proofs.Queueing.{waits-of, waits-within, outcomes-push, with_stage_at-there}

@@ -2,7 +2,7 @@ use Rattle.std.proofs.Common.{◌≡◌, ◌∙◌, ◌+◌, ◌<◌, ◌^◌, l
 use Rattle.std.proofs.lemmas.List.{length-map}
 use Rattle.generation_slab.specs.HeldPlaces.{with_held}
 use Rattle.napi_types.specs.parts.Pool.{WorkPool, with_work}
-use Rattle.async_work.specs.Line.{outcome_seen}
+use Rattle.async_work.specs.Queue.{outcome_seen}
 use Rattle.async_work.specs.WorkPlaces.{places_seen}
 use Rattle.async_work.proofs.Ids.{places-rise, seen-made}
 use Rattle.async_work.proofs.KeepingPools.{kept-more, kept-created}

@@ -1,7 +1,7 @@
 use Rattle.std.proofs.Common.{◌≡◌, ◌∙◌, ◌-◌, ◌++◌, [], ◌∷◌, Some, set, refl, sym, ap, arith}
 use Rattle.std.proofs.lemmas.List.{length-map}
 use Rattle.napi_types.specs.parts.Pool.{WorkPool, executed_by, value_of_work, with_finished}
-use Rattle.async_work.specs.Line.{InLine, CameOut, Ended, outcome_seen, outcomes_seen, line_work_at, line_stage_at, runner, runner_at, with_stage, ran_outcome}
+use Rattle.async_work.specs.Queue.{NumberedWork, CameOut, Ended, outcome_seen, outcomes_seen, queue_work_at, queue_stage_at, runner, runner_at, with_stage, ran_outcome}
 use Rattle.async_work.proofs.KeepingPools.{only-runs, entry-live, kept-finished, room-to-finish}
 use Rattle.async_work.proofs.Linking.{stage-of}
 use Rattle.async_work.proofs.PoolExecutions.{executed}
@@ -19,11 +19,11 @@ runs g c =
     executed c.self.inside.line.works c.args.worker c.into_parts-number.result.0
     (ap (λ (p : WorkPool). executed_by p c.args.worker) c.self.view_is ∙ executes g c)
 
--- so it stands in line
-entry : (g : _) (c : After-finish-outcome g) → (e : InLine) × (line_work_at c.self.inside.line.works c.into_parts-number.result.0 ≡ Some e)
+-- so it stands in the queue
+entry : (g : _) (c : After-finish-outcome g) → (e : NumberedWork) × (queue_work_at c.self.inside.line.works c.into_parts-number.result.0 ≡ Some e)
 entry g c =
     entry-live c.self.inside.line.works c.into_parts-number.result.0
-    (only-runs (line_stage_at c.self.inside.line.works c.into_parts-number.result.0) c.args.worker (runs g c)).unfinished
+    (only-runs (queue_stage_at c.self.inside.line.works c.into_parts-number.result.0) c.args.worker (runs g c)).unfinished
 
 entry-runs : (g : _) (c : After-finish-outcome g) → runner (entry g c).0.stage ≡ Some c.args.worker
 entry-runs g c = sym (ap runner (stage-of c.self.inside.line.works c.into_parts-number.result.0 (entry g c).0 (entry g c).1)) ∙ runs g c
@@ -40,7 +40,7 @@ push_back_reserved-requires g c =
     omega (arith, length-map c.self.inside.finished.items (outcome_seen g.J.Job.spec), room, c.self.inside.finished.ok.0)
 
 lines : (g : _) (c : After-finish-outcome g) (b : After-finish-outcome g)
-    → line_work_at c.self.inside.line.works c.into_parts-number.result.0 ≡ Some (entry g b).0
+    → queue_work_at c.self.inside.line.works c.into_parts-number.result.0 ≡ Some (entry g b).0
     → c.finish-outcome.new.self.works ≡ set c.self.inside.line.works (c.into_parts-number.result.0 - 1) (with_stage Ended (entry g b).0)
 lines g c b at = c.finish-outcome.ensures.finished ∙ with_stage_at-there c.self.inside.line.works c.into_parts-number.result.0 Ended (entry g b).0 at
 

@@ -11,7 +11,7 @@ invariant_of-self g c =
 
 pub returns-then-self-end-clause-first : goal.returns-then-self-end-clause-first
 returns-then-self-end-clause-first g c =
-    sym (ap head (none-waits _ _ _ c.self.invariant.in_line c.next_queued-self-inside.ensures.within.1 c.next_queued-self-inside.ensures.passed
+    sym (ap head (none-waits _ _ _ c.self.invariant.numbered_work c.next_queued-self-inside.ensures.within.1 c.next_queued-self-inside.ensures.passed
     (omega (arith, c.len-end.ensures, c.if-self-end.true)))) ∙ ap (λ (p : WorkPool). head p.queued) c.self.view_is
 
 pub returns-then-self-end-clause-rest : goal.returns-then-self-end-clause-rest
@@ -26,7 +26,7 @@ invariant_of-self-2 g c =
 pub returns-clause-first : goal.returns-clause-first
 returns-clause-first g c =
     let here = c.next_queued-self-inside.ensures.queued (omega (arith, c.next_queued-self-inside.ensures.within.1, c.len-end.ensures, c.if-self-end.false)) in
-    sym (ap head (next-waits _ _ _ c.self.invariant.in_line c.next_queued-self-inside.ensures.within.1 c.next_queued-self-inside.ensures.passed here))
+    sym (ap head (next-waits _ _ _ c.self.invariant.numbered_work c.next_queued-self-inside.ensures.within.1 c.next_queued-self-inside.ensures.passed here))
     ∙ ap (λ (p : WorkPool). head p.queued) c.self.view_is
 
 pub returns-clause-rest : goal.returns-clause-rest

@@ -2,7 +2,7 @@ use Rattle.std.proofs.Common.{◌≡◌, ◌∙◌, ◌==◌, not, ap, sym, is_s
 use Rattle.std.specs.VecDeque.{deque_len}
 use Rattle.std.proofs.lemmas.List.{length-map}
 use Rattle.napi_types.specs.parts.Pool.{WorkPool, first_completion}
-use Rattle.async_work.specs.Line.{outcome_seen}
+use Rattle.async_work.specs.Queue.{outcome_seen}
 use Rattle.async_work.proofs.Ids.{places-rise}
 use Rattle.async_work.proofs.FirstCompletions.{completion-there}
 use Rattle.async_work.proofs.pool.Pool.has_finished.Goals as goal

@@ -1,5 +1,5 @@
 use Rattle.std.proofs.Common.{ap}
-use Rattle.async_work.specs.Line.{outcomes_seen}
+use Rattle.async_work.specs.Queue.{outcomes_seen}
 use Rattle.async_work.specs.WorkPlaces.{places_seen}
 use Rattle.async_work.proofs.KeepingPools.{kept-new}
 use Rattle.async_work.proofs.pool.Pool.new.Goals as goal

@@ -36,7 +36,7 @@ give_number-job-requires-after_bounds g c = λ κs lives.
     let p = place g (goal.at.give_number-job-requires-after_bounds g c).In-Created in
     some-is _ p.0.spec (ap held_job p.1 ∙ c.self.invariant.linked.held c.args.id.0 p.0 p.1 p.2)
 
--- it has a place in line, and a number
+-- it has a place in the queue, and a number
 numbers : (g : _) (c : After-len-number g) → (p : Placed) → place_at (places_seen g.J.Job.spec c.self.inside.places) c.args.id.0 ≡ Some p → p.number ≡ None
     → length c.self.inside.line.works + 2 < 2 ^ 64
 numbers g c p at none =

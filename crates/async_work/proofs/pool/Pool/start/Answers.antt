@@ -5,8 +5,8 @@ use Rattle.napi_types.specs.plain.Lists.{head, tail}
 use Rattle.napi_types.specs.parts.Pool.{WorkPool, executed_by, with_started}
 use Rattle.napi_types.specs.parts.Works.{Work}
 use Rattle.async_work.specs.Executing.{StartedWork}
-use Rattle.async_work.specs.KeptPool.{pool_of, StandsInLine}
-use Rattle.async_work.specs.Line.{InLine, Runs, outcomes_seen, waiting_job, line_work_at, waiting_works}
+use Rattle.async_work.specs.KeptPool.{pool_of, StandsInQueue}
+use Rattle.async_work.specs.Queue.{NumberedWork, Runs, outcomes_seen, waiting_job, queue_work_at, waiting_works}
 use Rattle.async_work.specs.Picking.{work_to_start, first_to_start}
 use Rattle.async_work.specs.WorkPlaces.{places_seen}
 use Rattle.async_work.proofs.Draining.{first-of, none-first}
@@ -40,7 +40,8 @@ view g c = c.self-2.view_is ∙ c.first_queued.ensures.same
 first : (g : _) (c : After-start-job g) → head (waiting_works c.self-2.inside.line.works) ≡ Some c.in-Some.number
 first g c = ap (λ (p : WorkPool). head p.queued) (view g c) ∙ sym c.first_queued.ensures.first ∙ c.in-Some.is
 
-entry : (g : _) (c : After-start-job g) → (e : InLine) × (s : JobSpec) × (line_work_at c.self-2.inside.line.works c.in-Some.number ≡ Some e) × (waiting_job e.stage ≡ Some s)
+entry : (g : _) (c : After-start-job g)
+    → (e : NumberedWork) × (s : JobSpec) × (queue_work_at c.self-2.inside.line.works c.in-Some.number ≡ Some e) × (waiting_job e.stage ≡ Some s)
 entry g c =
     waits-within c.self-2.inside.line.works c.in-Some.number
     (head-first c.self-2.inside.line.works c.in-Some.number _ (first-of _ c.in-Some.number (first g c)))
@@ -67,7 +68,7 @@ returns-clause-job g c =
     let n = c.in-Some.number in
     let x = entry g at in
     let unfinished = (only-waits _ x.1 x.3).unfinished in
-    let stands : StandsInLine (places_seen g.J.Job.spec c.self-2.inside.places) n x.0 = c.self-2.invariant.linked.placed n _ x.2 unfinished in
+    let stands : StandsInQueue (places_seen g.J.Job.spec c.self-2.inside.places) n x.0 = c.self-2.invariant.linked.placed n _ x.2 unfinished in
     let job : waiting_job x.0.stage ≡ Some (g.J.Job.spec c.start-job.result) =
     ap waiting_job (sym (stage-of c.self-2.inside.line.works n x.0 x.2)) ∙ c.start-job.ensures.job in
     let same : g.J.Job.spec c.start-job.result ≡ stands.place.spec = if-some (λ s. s ≡ stands.place.spec) _ _ job stands.job in

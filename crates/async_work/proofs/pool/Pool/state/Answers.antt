@@ -2,7 +2,7 @@ use Rattle.std.proofs.Common.{◌≡◌, ◌∙◌, Some, None, option_map, sym,
 use Rattle.std.specs.Option.{option_and_then, option_map_or}
 use Rattle.napi_types.specs.parts.Pool.{WorkPool, work_at, work_state, number_of_work}
 use Rattle.napi_types.specs.parts.Works.{WorkState, Created}
-use Rattle.async_work.specs.Line.{stage_state}
+use Rattle.async_work.specs.Queue.{stage_state}
 use Rattle.async_work.specs.WorkPlaces.{Placed, place_seen, places_seen, place_at, standing_number}
 use Rattle.async_work.specs.WorkStates.{state_seen, numbered_state, place_state}
 use Rattle.async_work.proofs.Ids.{unnumbered}

@@ -4,8 +4,8 @@ use Rattle.napi_types.specs.declared.duties.DueInfo.{DueInfo}
 use Rattle.napi_types.specs.plain.Lists.{head}
 use Rattle.napi_types.specs.parts.Pool.{WorkPool, work_numbered, completion_info, first_completion, with_completed}
 use Rattle.napi_types.specs.parts.Works.{Outcome}
-use Rattle.async_work.specs.KeptPool.{pool_of, StandsInLine, CameOutOnce}
-use Rattle.async_work.specs.Line.{InLine, Done, outcome_seen, outcomes_seen, outcome_of, outcome_status, line_work_at, line_stage_at, has_ended, is_done_in_line, with_stage}
+use Rattle.async_work.specs.KeptPool.{pool_of, StandsInQueue, CameOutOnce}
+use Rattle.async_work.specs.Queue.{NumberedWork, Done, outcome_seen, outcomes_seen, outcome_of, outcome_status, queue_work_at, queue_stage_at, has_ended, is_done_in_queue, with_stage}
 use Rattle.async_work.specs.Picking.{unspent_spec}
 use Rattle.async_work.specs.WorkPlaces.{places_seen, place_at, work_of}
 use Rattle.async_work.proofs.Ids.{places-rise}
@@ -27,28 +27,29 @@ came_out : (g : _) (c : In_ok-outcome g) → CameOutOnce (places_seen g.J.Job.sp
 came_out g c = subst (CameOutOnce (places_seen g.J.Job.spec c.self.inside.places) c.self.inside.line.works) (outcomes g c) c.self.invariant.came_out
 
 -- and its work has ended
-ended : (g : _) (c : In_ok-outcome g) → has_ended (line_stage_at c.self.inside.line.works c.in_ok-outcome.outcome.number) ≡ true
+ended : (g : _) (c : In_ok-outcome g) → has_ended (queue_stage_at c.self.inside.line.works c.in_ok-outcome.outcome.number) ≡ true
 ended g c = first-ended _ c.self.inside.line.works (outcome_seen g.J.Job.spec c.in_ok-outcome.outcome) _ (came_out g c)
 
-entry : (g : _) (c : In_ok-outcome g) → (e : InLine) × (line_work_at c.self.inside.line.works c.in_ok-outcome.outcome.number ≡ Some e)
+entry : (g : _) (c : In_ok-outcome g) → (e : NumberedWork) × (queue_work_at c.self.inside.line.works c.in_ok-outcome.outcome.number ≡ Some e)
 entry g c = entry-live c.self.inside.line.works c.in_ok-outcome.outcome.number (ended-unfinished _ (ended g c))
 
-unfinished : (g : _) (c : In_ok-outcome g) → is_done_in_line (entry g c).0.stage ≡ false
+unfinished : (g : _) (c : In_ok-outcome g) → is_done_in_queue (entry g c).0.stage ≡ false
 unfinished g c =
-    ap is_done_in_line (sym (stage-of c.self.inside.line.works c.in_ok-outcome.outcome.number (entry g c).0 (entry g c).1)) ∙ ended-unfinished _ (ended g c)
+    ap is_done_in_queue (sym (stage-of c.self.inside.line.works c.in_ok-outcome.outcome.number (entry g c).0 (entry g c).1)) ∙ ended-unfinished _ (ended g c)
 
-stands : (g : _) (c : In_ok-outcome g) → StandsInLine (places_seen g.J.Job.spec c.self.inside.places) c.in_ok-outcome.outcome.number (entry g c).0
+stands : (g : _) (c : In_ok-outcome g) → StandsInQueue (places_seen g.J.Job.spec c.self.inside.places) c.in_ok-outcome.outcome.number (entry g c).0
 stands g c = c.self.invariant.linked.placed c.in_ok-outcome.outcome.number _ (entry g c).1 (unfinished g c)
 
 pub complete-id-requires-after_bounds : goal.complete-id-requires-after_bounds
 complete-id-requires-after_bounds g c = λ κs lives. ended g (goal.at.complete-id-requires-after_bounds g c).In_ok-outcome
 
 -- the place that is told of is that of the work
-there : (g : _) (c : After-complete-id g) (b : In_ok-outcome g) → (e : InLine) → line_work_at c.self.inside.line.works c.in_ok-outcome.outcome.number ≡ Some e
-    → (s : StandsInLine (places_seen g.J.Job.spec c.self.inside.places) c.in_ok-outcome.outcome.number e)
+there : (g : _) (c : After-complete-id g) (b : In_ok-outcome g) → (e : NumberedWork)
+    → queue_work_at c.self.inside.line.works c.in_ok-outcome.outcome.number ≡ Some e
+    → (s : StandsInQueue (places_seen g.J.Job.spec c.self.inside.places) c.in_ok-outcome.outcome.number e)
     → place_at (places_seen g.J.Job.spec c.self.inside.places) c.complete-id.result ≡ Some s.place
 there g c b e at s =
-    let id : e.id ≡ c.complete-id.result = same-some _ _ (sym (ap (option_map (λ (x : InLine). x.id)) at) ∙ c.complete-id.ensures.id) in
+    let id : e.id ≡ c.complete-id.result = same-some _ _ (sym (ap (option_map (λ (x : NumberedWork). x.id)) at) ∙ c.complete-id.ensures.id) in
     ap (place_at (places_seen g.J.Job.spec c.self.inside.places)) (sym id) ∙ s.there
 
 pub unreachable-requires : goal.unreachable-requires
@@ -60,7 +61,7 @@ unreachable-requires g c =
 only : (g : _) (c : In_ok-outcome g) → OnlyEnded (entry g c).0.stage
 only g c = only-ended _ (ap has_ended (sym (stage-of c.self.inside.line.works c.in_ok-outcome.outcome.number _ (entry g c).1)) ∙ ended g c)
 
-lines : (g : _) (c : After-complete-id g) (e : InLine) → line_work_at c.self.inside.line.works c.in_ok-outcome.outcome.number ≡ Some e
+lines : (g : _) (c : After-complete-id g) (e : NumberedWork) → queue_work_at c.self.inside.line.works c.in_ok-outcome.outcome.number ≡ Some e
     → c.complete-id.new.self.works ≡ set c.self.inside.line.works (c.in_ok-outcome.outcome.number - 1) (with_stage Done e)
 lines g c e at = c.complete-id.ensures.completed ∙ with_stage_at-there c.self.inside.line.works c.in_ok-outcome.outcome.number Done e at
 

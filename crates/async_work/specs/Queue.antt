@@ -7,39 +7,39 @@ use Rattle.napi_types.specs.declared.status.Status.TheVariants as status
 use Rattle.napi_types.specs.plain.Lists.{as_map}
 use Rattle.napi_types.specs.parts.Works.{WorkState, Queued, Running, Finished, Completed, Execution, Outcome}
 use Rattle.napi_types.specs.plain.Counted.{element, listed}
-use Rattle.async_work.specs.declared.line.Ending.{Ending}
-use Rattle.async_work.specs.declared.line.Ending.TheVariants as ending
-use Rattle.async_work.specs.declared.line.Numbered.{Numbered}
-use Rattle.async_work.specs.declared.line.EndedWork as code
-use Rattle.async_work.specs.declared.line.WorkStage.{WorkStage}
-use Rattle.async_work.specs.declared.line.WorkStage.TheVariants as stage
+use Rattle.async_work.specs.declared.queue.Ending.{Ending}
+use Rattle.async_work.specs.declared.queue.Ending.TheVariants as ending
+use Rattle.async_work.specs.declared.queue.Numbered.{Numbered}
+use Rattle.async_work.specs.declared.queue.EndedWork as code
+use Rattle.async_work.specs.declared.queue.WorkStage.{WorkStage}
+use Rattle.async_work.specs.declared.queue.WorkStage.TheVariants as stage
 
 -- how far a work that was queued has come: it waits with a job that computes this, a worker runs it, it has ended, or its completion has begun
-pub data LineStage : Type 0 where
-  Waits : JobSpec → LineStage
-  Runs : ℕ → LineStage
-  Ended : LineStage
-  Done : LineStage
+pub data QueueStage : Type 0 where
+  Waits : JobSpec → QueueStage
+  Runs : ℕ → QueueStage
+  Ended : QueueStage
+  Done : QueueStage
 
 -- the id of a work, 0 once its completion has begun, and how far it has come
-pub record InLine : Type 0 where
+pub record NumberedWork : Type 0 where
   pub id : ℕ
-  pub stage : LineStage
+  pub stage : QueueStage
 
 -- all works that were queued, each at the place of its number less one, and for how many more there is room
-pub record WorksInLine : Type 0 where
-  pub works : List InLine
+pub record QueueSeen : Type 0 where
+  pub works : List NumberedWork
   pub room : ℕ
 
 -- a work of this id that has come so far
-abbrev pub in_line : ℕ → LineStage → InLine
-in_line id Done = record { id = 0; stage = Done }
-in_line id s = record { id = id; stage = s }
+abbrev pub numbered_work : ℕ → QueueStage → NumberedWork
+numbered_work id Done = record { id = 0; stage = Done }
+numbered_work id s = record { id = id; stage = s }
 
--- a line behind so many works whose completion has begun
-abbrev pub behind : ℕ → List InLine → List InLine
+-- a queue behind so many works whose completion has begun
+abbrev pub behind : ℕ → List NumberedWork → List NumberedWork
 behind zero line = line
-behind (suc n) line = in_line 0 Done ∷ behind n line
+behind (suc n) line = numbered_work 0 Done ∷ behind n line
 
 -- a work that came out: its number, what its job computes, where that did not run, and its value
 pub record CameOut : Type 0 where
@@ -48,18 +48,18 @@ pub record CameOut : Type 0 where
   pub value : ℕ
 
 module _ {J : Type 0} (spec : J → JobSpec) where
-  abbrev pub stage_seen : WorkStage J → LineStage
+  abbrev pub stage_seen : WorkStage J → QueueStage
   stage_seen (stage.Queued job slip) = Waits (spec job)
   stage_seen (stage.Running worker slip) = Runs worker
   stage_seen stage.Finished = Ended
   stage_seen stage.Completed = Done
 
-  abbrev pub entry_seen : Numbered J → InLine
-  entry_seen n = in_line n.id (stage_seen n.stage)
+  abbrev pub entry_seen : Numbered J → NumberedWork
+  entry_seen n = numbered_work n.id (stage_seen n.stage)
 
   -- where so many works in front are no longer kept
-  abbrev pub line_seen : ℕ → List (Numbered J) → List InLine
-  line_seen dropped line = behind dropped (map entry_seen line)
+  abbrev pub queue_seen : ℕ → List (Numbered J) → List NumberedWork
+  queue_seen dropped line = behind dropped (map entry_seen line)
 
   abbrev pub ending_job : Ending J → Option JobSpec
   ending_job (ending.Ran value) = None
@@ -90,71 +90,71 @@ abbrev pub outcome_of : CameOut → Outcome
 outcome_of o = record { work = o.number; status = outcome_status o.unspent; value = o.value }
 
 -- STAGES
-abbrev pub waiting_job : LineStage → Option JobSpec
+abbrev pub waiting_job : QueueStage → Option JobSpec
 waiting_job (Waits spec) = Some spec
 waiting_job _ = None
 
-abbrev pub runner : LineStage → Option ℕ
+abbrev pub runner : QueueStage → Option ℕ
 runner (Runs worker) = Some worker
 runner _ = None
 
-abbrev pub has_ended : LineStage → Bool
+abbrev pub has_ended : QueueStage → Bool
 has_ended Ended = true
 has_ended _ = false
 
-abbrev pub is_done_in_line : LineStage → Bool
-is_done_in_line Done = true
-is_done_in_line _ = false
+abbrev pub is_done_in_queue : QueueStage → Bool
+is_done_in_queue Done = true
+is_done_in_queue _ = false
 
-abbrev pub stage_state : LineStage → WorkState
+abbrev pub stage_state : QueueStage → WorkState
 stage_state (Waits spec) = Queued
 stage_state (Runs worker) = Running
 stage_state Ended = Finished
 stage_state Done = Completed
 
-abbrev pub with_stage : LineStage → InLine → InLine
-with_stage s e = in_line e.id s
+abbrev pub with_stage : QueueStage → NumberedWork → NumberedWork
+with_stage s e = numbered_work e.id s
 
 -- THE LINE
 -- the work of a number
-abbrev pub line_work_at : List InLine → ℕ → Option InLine
-line_work_at line n = element line n
+abbrev pub queue_work_at : List NumberedWork → ℕ → Option NumberedWork
+queue_work_at line n = element line n
 
-abbrev pub line_stage_at : List InLine → ℕ → LineStage
-line_stage_at line n = option_map_or (λ (e : InLine). e.stage) (line_work_at line n) Done
+abbrev pub queue_stage_at : List NumberedWork → ℕ → QueueStage
+queue_stage_at line n = option_map_or (λ (e : NumberedWork). e.stage) (queue_work_at line n) Done
 
-abbrev pub line_id_at : List InLine → ℕ → Option ℕ
-line_id_at line n = option_map (λ (e : InLine). e.id) (line_work_at line n)
+abbrev pub queue_id_at : List NumberedWork → ℕ → Option ℕ
+queue_id_at line n = option_map (λ (e : NumberedWork). e.id) (queue_work_at line n)
 
 -- the work of a number has come so far
-abbrev pub with_stage_at : ℕ → LineStage → List InLine → List InLine
-with_stage_at n s line = slice_set line (n - 1) (with_stage s (slice_index_or line (n - 1) (in_line 0 Done)))
+abbrev pub with_stage_at : ℕ → QueueStage → List NumberedWork → List NumberedWork
+with_stage_at n s line = slice_set line (n - 1) (with_stage s (slice_index_or line (n - 1) (numbered_work 0 Done)))
 
 -- it waits for a worker
-abbrev pub waits : List InLine → ℕ → Bool
-waits line n = is_some (waiting_job (line_stage_at line n))
+abbrev pub waits : List NumberedWork → ℕ → Bool
+waits line n = is_some (waiting_job (queue_stage_at line n))
 
 -- the worker that executes it
-abbrev pub runner_at : List InLine → ℕ → Option ℕ
-runner_at line n = runner (line_stage_at line n)
+abbrev pub runner_at : List NumberedWork → ℕ → Option ℕ
+runner_at line n = runner (queue_stage_at line n)
 
 -- it came out, and its completion has not begun
-abbrev pub ended_at : List InLine → ℕ → Bool
-ended_at line n = has_ended (line_stage_at line n)
+abbrev pub ended_at : List NumberedWork → ℕ → Bool
+ended_at line n = has_ended (queue_stage_at line n)
 
 -- the numbers of those that wait
-abbrev pub listed_number : ℕ → InLine → Option ℕ
+abbrev pub listed_number : ℕ → NumberedWork → Option ℕ
 listed_number n e = option_map (λ _. n) (waiting_job e.stage)
 
-abbrev pub waiting_works : List InLine → List ℕ
+abbrev pub waiting_works : List NumberedWork → List ℕ
 waiting_works line = listed listed_number 1 line
 
 -- which worker executes which of them, as a finite map by the worker
-abbrev pub listed_execution : ℕ → InLine → Option Execution
+abbrev pub listed_execution : ℕ → NumberedWork → Option Execution
 listed_execution n e = option_map (λ worker. record { worker = worker; work = n }) (runner e.stage)
 
-abbrev pub executions_listed : List InLine → List Execution
+abbrev pub executions_listed : List NumberedWork → List Execution
 executions_listed line = listed listed_execution 1 line
 
-abbrev pub executions : List InLine → List Execution
+abbrev pub executions : List NumberedWork → List Execution
 executions line = as_map (λ x. x.worker) (executions_listed line)

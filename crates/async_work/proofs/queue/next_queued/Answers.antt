@@ -1,7 +1,7 @@
 use Rattle.std.proofs.Common.{◌≡◌, ◌∙◌, ◌+◌, arith, inl, inr}
 use Rattle.std.proofs.lemmas.Bool.{cases_lt}
-use Rattle.async_work.proofs.KeptLine.{waits-kept}
-use Rattle.async_work.proofs.line.next_queued.Goals as goal
+use Rattle.async_work.proofs.KeptQueue.{waits-kept}
+use Rattle.async_work.proofs.queue.next_queued.Goals as goal
 
 pub returns-then-is_queued-clause-queued : goal.returns-then-is_queued-clause-queued
 returns-then-is_queued-clause-queued g c = λ within.

@@ -1,11 +1,11 @@
-//! The works that were queued, each under its number in the order of queueing. Contracts see all of them (`specs/Line.antt`); those in front whose
+//! The works that were queued, each under its number in the order of queueing. Contracts see all of them (`specs/Queue.antt`); those in front whose
 //! completion has begun are no longer kept.
 ghost use Rattle.std.specs.Prelude.{◌≡◌, ℕ, ◌+◌, ◌++◌, ◌<◌, ◌^◌, ◌≤◌, true, false, [], IsSome, Some, OnOk, length};
 ghost use Rattle.std.specs.Option.{is_some, option_map_or};
 ghost use Rattle.std.specs.VecDeque.{deque_capacity, deque_len};
 ghost use Rattle.napi_types.specs.plain.Lists.{one};
-ghost use Rattle.async_work.specs.Line.{line_seen, stage_seen, line_stage_at, line_id_at, waiting_job, runner, has_ended, is_done_in_line, with_stage_at, waits, Waits, Runs, Ended, Done};
-ghost use Rattle.async_work.specs.Line.{outcome_seen, ran_outcome, unstarted_outcome};
+ghost use Rattle.async_work.specs.Queue.{queue_seen, stage_seen, queue_stage_at, queue_id_at, waiting_job, runner, has_ended, is_done_in_queue, with_stage_at, waits, Waits, Runs, Ended, Done};
+ghost use Rattle.async_work.specs.Queue.{outcome_seen, ran_outcome, unstarted_outcome};
 
 use crate::Job;
 use crate::room::reserve_amply;
@@ -52,34 +52,34 @@ pub(crate) struct EndedWork<J> {
 
 /// The works that were queued, in their order. Their numbers count from 1.
 #[derive(Drop)]
-pub(crate) struct WorkLine<J: Job> {
+pub(crate) struct WorkQueue<J: Job> {
     // The work with the number n stands at n - 1 - dropped.
     works: VecDeque<Numbered<J>>,
     // How many works are no longer kept: those in front whose completion has begun.
     dropped: u64,
 }
 
-impl<J: Job> Model for WorkLine<J> {
-    ghost use Rattle.async_work.specs.Line.{WorksInLine};
+impl<J: Job> Model for WorkQueue<J> {
+    ghost use Rattle.async_work.specs.Queue.{QueueSeen};
 
-    ghost Value = { WorksInLine };
+    ghost Value = { QueueSeen };
 
     ghost use Rattle.std.specs.Prelude.{◌+◌, ◌-◌, ◌<◌, ◌^◌, length};
     ghost use Rattle.std.specs.VecDeque.{deque_capacity, deque_len};
-    ghost use Rattle.async_work.specs.Line.{line_seen};
+    ghost use Rattle.async_work.specs.Queue.{queue_seen};
 
     ghost view = { λ line.
-        record { works = line_seen J.spec line.dropped line.works.items; room = deque_capacity line.works - deque_len line.works } };
+        record { works = queue_seen J.spec line.dropped line.works.items; room = deque_capacity line.works - deque_len line.works } };
 
     ghost invariant = { λ line. line.dropped + length line.works.items + 1 < 2 ^ 64 };
 }
 
-impl<J: Job> WorkLine<J> {
+impl<J: Job> WorkQueue<J> {
     /// No works. It takes no memory.
-    pub(crate) fn new(alloc: Global) -> WorkLine<J>
+    pub(crate) fn new(alloc: Global) -> WorkQueue<J>
         ensures { result.works ≡ [] }
     {
-        WorkLine {
+        WorkQueue {
             works: VecDeque::new(alloc),
             dropped: 0,
         }
@@ -119,7 +119,7 @@ impl<J: Job> WorkLine<J> {
 
     /// How far the work of a number has come. `None` where its completion has begun and it is no longer kept.
     pub(crate) fn stage(&self, number: u64) -> Option<&WorkStage<J>>
-        ensures { option_map_or (λ s. stage_seen J.spec s.now) result Done ≡ line_stage_at self.now.works number }
+        ensures { option_map_or (λ s. stage_seen J.spec s.now) result Done ≡ queue_stage_at self.now.works number }
     {
         let place = number.checked_sub(self.dropped + 1)?;
         Some(&self.works.get(place as usize)?.stage)
@@ -139,8 +139,8 @@ impl<J: Job> WorkLine<J> {
 
     /// A work that is queued runs, and gives its job away.
     pub(crate) fn start(&mut self, number: u64, worker: u32) -> J
-        requires { IsSome (waiting_job (line_stage_at self.old.works number)) }
-        ensures job { waiting_job (line_stage_at self.old.works number) ≡ Some (J.spec result) }
+        requires { IsSome (waiting_job (queue_stage_at self.old.works number)) }
+        ensures job { waiting_job (queue_stage_at self.old.works number) ≡ Some (J.spec result) }
         ensures started { self.new.works ≡ with_stage_at number (Runs worker) self.old.works }
         ensures room { self.new.room ≡ self.old.room }
     {
@@ -152,7 +152,7 @@ impl<J: Job> WorkLine<J> {
 
     /// A work that runs came out, with this value.
     pub(crate) fn finish(&mut self, number: u64, value: u64) -> EndedWork<J>
-        requires { IsSome (runner (line_stage_at self.old.works number)) }
+        requires { IsSome (runner (queue_stage_at self.old.works number)) }
         ensures outcome { outcome_seen J.spec result ≡ ran_outcome number value }
         ensures finished { self.new.works ≡ with_stage_at number Ended self.old.works }
         ensures room { self.new.room ≡ self.old.room }
@@ -166,8 +166,8 @@ impl<J: Job> WorkLine<J> {
 
     /// A work that is queued is cancelled.
     pub(crate) fn cancel(&mut self, number: u64) -> EndedWork<J>
-        requires { IsSome (waiting_job (line_stage_at self.old.works number)) }
-        ensures outcome { outcome_seen J.spec result ≡ unstarted_outcome number (waiting_job (line_stage_at self.old.works number)) }
+        requires { IsSome (waiting_job (queue_stage_at self.old.works number)) }
+        ensures outcome { outcome_seen J.spec result ≡ unstarted_outcome number (waiting_job (queue_stage_at self.old.works number)) }
         ensures finished { self.new.works ≡ with_stage_at number Ended self.old.works }
         ensures room { self.new.room ≡ self.old.room }
     {
@@ -181,8 +181,8 @@ impl<J: Job> WorkLine<J> {
     ///
     /// Constant time over all works: it drops those in front whose completion has begun.
     pub(crate) fn complete(&mut self, number: u64) -> u64
-        requires { has_ended (line_stage_at self.old.works number) ≡ true }
-        ensures id { line_id_at self.old.works number ≡ Some result }
+        requires { has_ended (queue_stage_at self.old.works number) ≡ true }
+        ensures id { queue_id_at self.old.works number ≡ Some result }
         ensures completed { self.new.works ≡ with_stage_at number Done self.old.works }
         ensures room { self.old.room ≤ self.new.room }
     {
@@ -197,8 +197,8 @@ impl<J: Job> WorkLine<J> {
 fn next_queued<J: Job>(works: &VecDeque<Numbered<J>>, from: usize) -> usize
     requires { from ≤ length works.now.items }
     ensures within { (from ≤ result) × (result ≤ length works.now.items) }
-    ensures passed { (n : ℕ) → from < n → n ≤ result → waits (line_seen J.spec 0 works.now.items) n ≡ false }
-    ensures queued { result < length works.now.items → waits (line_seen J.spec 0 works.now.items) (result + 1) ≡ true }
+    ensures passed { (n : ℕ) → from < n → n ≤ result → waits (queue_seen J.spec 0 works.now.items) n ≡ false }
+    ensures queued { result < length works.now.items → waits (queue_seen J.spec 0 works.now.items) (result + 1) ≡ true }
 {
     for place in from..works.len() {
         if is_queued(&works[place]) {
@@ -278,7 +278,7 @@ fn complete<J: Job>(numbered: &mut Numbered<J>) -> u64
 /// Drops the works in front whose completion has begun. How many were dropped in all, where these were before.
 fn drop_completed<J: Job>(works: &mut VecDeque<Numbered<J>>, dropped: u64) -> u64
     requires { dropped + length works.old.items < 2 ^ 64 }
-    ensures same { line_seen J.spec result works.new.items ≡ line_seen J.spec dropped works.old.items }
+    ensures same { queue_seen J.spec result works.new.items ≡ queue_seen J.spec dropped works.old.items }
     ensures as_many { result + length works.new.items ≡ dropped + length works.old.items }
     ensures capacity { deque_capacity works.new ≡ deque_capacity works.old }
     ensures fewer { length works.new.items ≤ length works.old.items }
@@ -293,7 +293,7 @@ fn drop_completed<J: Job>(works: &mut VecDeque<Numbered<J>>, dropped: u64) -> u6
 
 /// Whether there is a work, and its completion has begun.
 fn is_completed<J: Job>(first: Option<&Numbered<J>>) -> bool
-    ensures { result ≡ option_map_or (λ n. is_done_in_line (stage_seen J.spec n.now.stage)) first.entry false }
+    ensures { result ≡ option_map_or (λ n. is_done_in_queue (stage_seen J.spec n.now.stage)) first.entry false }
 {
     match first {
         Some(numbered) => matches!(numbered.stage, WorkStage::Completed),

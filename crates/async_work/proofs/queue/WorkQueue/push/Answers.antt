@@ -1,7 +1,7 @@
 use Rattle.std.proofs.Common.{◌∙◌, ◌++◌, [], ◌∷◌, length, ap, arith}
-use Rattle.async_work.specs.Line.{WorksInLine, Waits, line_seen}
-use Rattle.async_work.proofs.KeptLine.{length-line, line-push}
-use Rattle.async_work.proofs.line.WorkLine.push.Goals as goal
+use Rattle.async_work.specs.Queue.{QueueSeen, Waits, queue_seen}
+use Rattle.async_work.proofs.KeptQueue.{length-line, line-push}
+use Rattle.async_work.proofs.queue.WorkQueue.push.Goals as goal
 
 pub invariant_of-self : goal.invariant_of-self
 invariant_of-self g c =
@@ -12,7 +12,7 @@ invariant_of-self g c =
       c.push_back_reserved.ensures.len,
       c.push_back_reserved.new.self.ok.0,
       length-line g.J.Job.spec c.self.inside.dropped c.self.inside.works.items,
-      ap (λ (l : WorksInLine). length l.works) c.self.view_is,
+      ap (λ (l : QueueSeen). length l.works) c.self.view_is,
     )
 
 pub returns-clause-number : goal.returns-clause-number
@@ -22,10 +22,11 @@ returns-clause-number g c =
       c.len.ensures,
       c.self.inside.works.ok.0,
       length-line g.J.Job.spec c.self.inside.dropped c.self.inside.works.items,
-      ap (λ (l : WorksInLine). length l.works) c.self.view_is,
+      ap (λ (l : QueueSeen). length l.works) c.self.view_is,
     )
 
 pub returns-clause-longer : goal.returns-clause-longer
 returns-clause-longer g c =
-    ap (line_seen g.J.Job.spec c.self.inside.dropped) c.push_back_reserved.ensures.items
-    ∙ line-push g.J.Job.spec c.self.inside.dropped c.self.inside.works.items _ ∙ ap (λ (l : WorksInLine). l.works ++ record { id = c.args.id; stage = Waits (g.J.Job.spec c.args.job) } ∷ []) c.self.view_is
+    ap (queue_seen g.J.Job.spec c.self.inside.dropped) c.push_back_reserved.ensures.items
+    ∙ line-push g.J.Job.spec c.self.inside.dropped c.self.inside.works.items _ ∙ ap
+    (λ (l : QueueSeen). l.works ++ record { id = c.args.id; stage = Waits (g.J.Job.spec c.args.job) } ∷ []) c.self.view_is

@@ -1,21 +1,21 @@
 use Rattle.std.proofs.Common.{◌∙◌, ◌-◌, Some, refl, sym, ap, arith}
-use Rattle.async_work.specs.Line.{WorksInLine, Done, is_done_in_line, line_stage_at, line_id_at, with_stage_at}
-use Rattle.async_work.proofs.KeptLine.{bounds-live, place-within, id-kept, kept-set}
+use Rattle.async_work.specs.Queue.{QueueSeen, Done, is_done_in_queue, queue_stage_at, queue_id_at, with_stage_at}
+use Rattle.async_work.proofs.KeptQueue.{bounds-live, place-within, id-kept, kept-set}
 use Rattle.async_work.proofs.Linking.{ended-unfinished}
 use Rattle.std.proofs.lemmas.List.{length-set}
-use Rattle.async_work.proofs.line.WorkLine.complete.Goals as goal
+use Rattle.async_work.proofs.queue.WorkQueue.complete.Goals as goal
 
 pub overflow_sub-number-2 : goal.overflow_sub-number-2
 overflow_sub-number-2 g c =
-    let works = ap (λ (l : WorksInLine). l.works) c.self.view_is in
-    let open_still = ap (λ l. is_done_in_line (line_stage_at l c.args.number)) works ∙ ended-unfinished _ c.requires in
+    let works = ap (λ (l : QueueSeen). l.works) c.self.view_is in
+    let open_still = ap (λ l. is_done_in_queue (queue_stage_at l c.args.number)) works ∙ ended-unfinished _ c.requires in
     let bounds = bounds-live g.J.Job.spec c.self.inside.dropped c.self.inside.works.items c.args.number open_still in
     omega (arith, bounds.0)
 
 pub index_mut-requires : goal.index_mut-requires
 index_mut-requires g c =
-    let works = ap (λ (l : WorksInLine). l.works) c.self.view_is in
-    let open_still = ap (λ l. is_done_in_line (line_stage_at l c.args.number)) works ∙ ended-unfinished _ c.requires in
+    let works = ap (λ (l : QueueSeen). l.works) c.self.view_is in
+    let open_still = ap (λ l. is_done_in_queue (queue_stage_at l c.args.number)) works ∙ ended-unfinished _ c.requires in
     omega (
       arith,
       place-within g.J.Job.spec c.self.inside.dropped c.self.inside.works.items c.args.number _ open_still refl,
@@ -37,16 +37,16 @@ invariant_of-self g c =
 
 pub returns-clause-id : goal.returns-clause-id
 returns-clause-id g c =
-    let works = ap (λ (l : WorksInLine). l.works) c.self.view_is in
-    let open_still = ap (λ l. is_done_in_line (line_stage_at l c.args.number)) works ∙ ended-unfinished _ c.requires in
-    sym (ap (λ l. line_id_at l c.args.number) works)
+    let works = ap (λ (l : QueueSeen). l.works) c.self.view_is in
+    let open_still = ap (λ l. is_done_in_queue (queue_stage_at l c.args.number)) works ∙ ended-unfinished _ c.requires in
+    sym (ap (λ l. queue_id_at l c.args.number) works)
     ∙ id-kept g.J.Job.spec c.self.inside.dropped c.self.inside.works.items c.args.number _ open_still refl c.index_mut.result.now c.index_mut.ensures.value
     ∙ ap (λ i. Some i) (sym c.complete-id.ensures.id)
 
 pub returns-clause-completed : goal.returns-clause-completed
 returns-clause-completed g c =
-    let works = ap (λ (l : WorksInLine). l.works) c.self.view_is in
-    let open_still = ap (λ l. is_done_in_line (line_stage_at l c.args.number)) works ∙ ended-unfinished _ c.requires in
+    let works = ap (λ (l : QueueSeen). l.works) c.self.view_is in
+    let open_still = ap (λ l. is_done_in_queue (queue_stage_at l c.args.number)) works ∙ ended-unfinished _ c.requires in
     c.drop_completed-dropped.ensures.same
     ∙ kept-set g.J.Job.spec c.self.inside.dropped c.self.inside.works.items c.args.number _ open_still refl c.complete-id.new.numbered c.index_mut.result.now Done
     c.index_mut.ensures.value c.complete-id.ensures.same c.complete-id.ensures.completed ∙ ap (with_stage_at c.args.number Done) works

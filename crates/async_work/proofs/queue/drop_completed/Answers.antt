@@ -1,6 +1,6 @@
 use Rattle.std.proofs.Common.{◌∙◌, sym, arith}
-use Rattle.async_work.proofs.KeptLine.{front-dropped}
-use Rattle.async_work.proofs.line.drop_completed.Goals as goal
+use Rattle.async_work.proofs.KeptQueue.{front-dropped}
+use Rattle.async_work.proofs.queue.drop_completed.Goals as goal
 
 pub loop-works-preserved : goal.loop-works-preserved
 loop-works-preserved g c =

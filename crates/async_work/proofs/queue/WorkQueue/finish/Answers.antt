@@ -1,19 +1,19 @@
 use Rattle.std.proofs.Common.{◌∙◌, IsSome, refl, sym, ap, subst, arith}
-use Rattle.async_work.specs.Line.{WorksInLine, Ended, runner, is_done_in_line, line_stage_at, with_stage_at}
-use Rattle.async_work.proofs.KeptLine.{bounds-live, place-within, stage-kept, kept-set, runs-unfinished}
-use Rattle.async_work.proofs.line.WorkLine.finish.Goals as goal
+use Rattle.async_work.specs.Queue.{QueueSeen, Ended, runner, is_done_in_queue, queue_stage_at, with_stage_at}
+use Rattle.async_work.proofs.KeptQueue.{bounds-live, place-within, stage-kept, kept-set, runs-unfinished}
+use Rattle.async_work.proofs.queue.WorkQueue.finish.Goals as goal
 
 pub overflow_sub-number-2 : goal.overflow_sub-number-2
 overflow_sub-number-2 g c =
-    let works = ap (λ (l : WorksInLine). l.works) c.self.view_is in
-    let open_still = ap (λ l. is_done_in_line (line_stage_at l c.args.number)) works ∙ runs-unfinished _ c.requires in
+    let works = ap (λ (l : QueueSeen). l.works) c.self.view_is in
+    let open_still = ap (λ l. is_done_in_queue (queue_stage_at l c.args.number)) works ∙ runs-unfinished _ c.requires in
     let bounds = bounds-live g.J.Job.spec c.self.inside.dropped c.self.inside.works.items c.args.number open_still in
     omega (arith, bounds.0)
 
 pub index_mut-requires : goal.index_mut-requires
 index_mut-requires g c =
-    let works = ap (λ (l : WorksInLine). l.works) c.self.view_is in
-    let open_still = ap (λ l. is_done_in_line (line_stage_at l c.args.number)) works ∙ runs-unfinished _ c.requires in
+    let works = ap (λ (l : QueueSeen). l.works) c.self.view_is in
+    let open_still = ap (λ l. is_done_in_queue (queue_stage_at l c.args.number)) works ∙ runs-unfinished _ c.requires in
     omega (
       arith,
       place-within g.J.Job.spec c.self.inside.dropped c.self.inside.works.items c.args.number _ open_still refl,
@@ -22,15 +22,15 @@ index_mut-requires g c =
 
 pub finish-requires-after_bounds : goal.finish-requires-after_bounds
 finish-requires-after_bounds g c = λ κs lives.
-    let works = ap (λ (l : WorksInLine). l.works) c.self.view_is in
-    let open_still = ap (λ l. is_done_in_line (line_stage_at l c.args.number)) works ∙ runs-unfinished _ c.requires in
-    let there = sym (ap (λ l. line_stage_at l c.args.number) works)
+    let works = ap (λ (l : QueueSeen). l.works) c.self.view_is in
+    let open_still = ap (λ l. is_done_in_queue (queue_stage_at l c.args.number)) works ∙ runs-unfinished _ c.requires in
+    let there = sym (ap (λ l. queue_stage_at l c.args.number) works)
     ∙ stage-kept g.J.Job.spec c.self.inside.dropped c.self.inside.works.items c.args.number _ open_still refl c.index_mut.result.now c.index_mut.ensures.value in
     subst (λ s. IsSome (runner s)) there c.requires
 
 pub returns-clause-finished : goal.returns-clause-finished
 returns-clause-finished g c =
-    let works = ap (λ (l : WorksInLine). l.works) c.self.view_is in
-    let open_still = ap (λ l. is_done_in_line (line_stage_at l c.args.number)) works ∙ runs-unfinished _ c.requires in
+    let works = ap (λ (l : QueueSeen). l.works) c.self.view_is in
+    let open_still = ap (λ l. is_done_in_queue (queue_stage_at l c.args.number)) works ∙ runs-unfinished _ c.requires in
     kept-set g.J.Job.spec c.self.inside.dropped c.self.inside.works.items c.args.number _ open_still refl c.finish.new.numbered c.index_mut.result.now Ended
     c.index_mut.ensures.value c.finish.ensures.same c.finish.ensures.finished ∙ ap (with_stage_at c.args.number Ended) works
