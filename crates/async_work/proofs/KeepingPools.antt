@@ -10,7 +10,7 @@ use Rattle.napi_types.specs.plain.Lists.{found, has_number, with_record, with_nu
 use Rattle.napi_types.proofs.plain.Found.{IsRising, same-self, same-tells, apart-above}
 use Rattle.napi_types.proofs.plain.Maps.{filter_all}
 use Rattle.async_work.specs.WorkPlaces.{Placed, place_at, is_unqueued, with_place_number, with_number_at}
-use Rattle.async_work.specs.Queue.{QueueStage, Waits, Runs, Ended, Done, NumberedWork, CameOut, waiting_job, runner, has_ended, is_done_in_queue, with_stage, queue_work_at, queue_stage_at, waits, runner_at, ended_at, waiting_works, executions}
+use Rattle.async_work.specs.Queue.{QueueStage, StillQueued, Runs, Ended, Done, NumberedWork, CameOut, waiting_job, runner, has_ended, is_done_in_queue, with_stage, queue_work_at, queue_stage_at, queued_at, runner_at, ended_at, waiting_works, executions}
 use Rattle.async_work.specs.KeptPool.{KeepsJob, IsQueue, CameOutOnce, IsKeptPool}
 use Rattle.async_work.proofs.Ids.{Replaced, replaced-made, replaced-freed, replaced-numbered, held-at, none-held, new-absent, issued-made, issued-freed, issued-kept, length-issued}
 use Rattle.async_work.proofs.Mapped.{count-less, count-more, count-changed}
@@ -25,7 +25,7 @@ pub record OnlyWaits (s : QueueStage) : Type 0 where
   pub unfinished : is_done_in_queue s ≡ false
 
 pub only-waits : (s : QueueStage) (job : JobSpec) → waiting_job s ≡ Some job → OnlyWaits s
-only-waits (Waits spec) job is = record { idle = refl; lives = refl; unfinished = refl }
+only-waits (StillQueued spec) job is = record { idle = refl; lives = refl; unfinished = refl }
 only-waits (Runs w) job is = let no : ⊥ = cc in absurd no
 only-waits Ended job is = let no : ⊥ = cc in absurd no
 only-waits Done job is = let no : ⊥ = cc in absurd no
@@ -36,7 +36,7 @@ pub record OnlyRuns (s : QueueStage) : Type 0 where
   pub unfinished : is_done_in_queue s ≡ false
 
 pub only-runs : (s : QueueStage) (w : ℕ) → runner s ≡ Some w → OnlyRuns s
-only-runs (Waits spec) w is = let no : ⊥ = cc in absurd no
+only-runs (StillQueued spec) w is = let no : ⊥ = cc in absurd no
 only-runs (Runs v) w is = record { started = refl; lives = refl; unfinished = refl }
 only-runs Ended w is = let no : ⊥ = cc in absurd no
 only-runs Done w is = let no : ⊥ = cc in absurd no
@@ -47,7 +47,7 @@ pub record OnlyEnded (s : QueueStage) : Type 0 where
   pub unfinished : is_done_in_queue s ≡ false
 
 pub only-ended : (s : QueueStage) → has_ended s ≡ true → OnlyEnded s
-only-ended (Waits spec) is = let no : ⊥ = cc in absurd no
+only-ended (StillQueued spec) is = let no : ⊥ = cc in absurd no
 only-ended (Runs v) is = let no : ⊥ = cc in absurd no
 only-ended Ended is = record { started = refl; idle = refl; unfinished = refl }
 only-ended Done is = let no : ⊥ = cc in absurd no
@@ -90,10 +90,10 @@ module _ (places : List (HeldValue Placed)) (issued : List ℕ) (line : List Num
       let some = created-some id p rises is none in
       omega (arith, some, kept.room.queue_room)
 
-  pub queued-some : (n : ℕ) → waits line n ≡ true → 1 ≤ queued
+  pub queued-some : (n : ℕ) → queued_at line n ≡ true → 1 ≤ queued
   queued-some n is = let less = length-less line n is in omega (arith, less, kept.room.queued_are)
 
-  pub room-to-cancel : (n : ℕ) → waits line n ≡ true → length finished < finished_places
+  pub room-to-cancel : (n : ℕ) → queued_at line n ≡ true → length finished < finished_places
   room-to-cancel n is =
       let some = queued-some n is in
       omega (arith, some, kept.room.finished_room)
@@ -248,15 +248,15 @@ module _ (places : List (HeldValue Placed)) (issued : List ℕ) (line : List Num
       same_runner : (m : ℕ) → runner_at (line ++ e ∷ []) m ≡ runner_at line m
       same_runner = runner-queued line e p.spec waits_for
 
-      still : (m : ℕ) → m ≤ first → waits (line ++ e ∷ []) m ≡ false
+      still : (m : ℕ) → m ≤ first → queued_at (line ++ e ∷ []) m ≡ false
       still m before = stage-push (λ s. is_some (waiting_job s)) line e m ∙ by (length line + 1 == m) refl
         where
-          by : (b : Bool) → (length line + 1 == m) ≡ b → cond b (is_some (waiting_job e.stage)) (waits line m) ≡ false
+          by : (b : Bool) → (length line + 1 == m) ≡ b → cond b (is_some (waiting_job e.stage)) (queued_at line m) ≡ false
           by true same = let at : length line + 1 ≡ m = same-tells (length line + 1) m same in absurd (omega (arith, at, before, kept.numbered_work.within))
           by false same = kept.numbered_work.passed m before
 
   -- WORKS ARE PASSED OVER THAT DO NOT WAIT
-  pub kept-passed : (next : ℕ) → next ≤ length line → ((m : ℕ) → first < m → m ≤ next → waits line m ≡ false)
+  pub kept-passed : (next : ℕ) → next ≤ length line → ((m : ℕ) → first < m → m ≤ next → queued_at line m ≡ false)
       → IsKeptPool places issued line finished next created queued running closing spare finished_places
   kept-passed next within passed = record {
     known = kept.known;
@@ -267,7 +267,7 @@ module _ (places : List (HeldValue Placed)) (issued : List ℕ) (line : List Num
     shut = kept.shut;
   }
     where
-      by : (m : ℕ) → m ≤ next → (first < m) ⊎ (m ≤ first) → waits line m ≡ false
+      by : (m : ℕ) → m ≤ next → (first < m) ⊎ (m ≤ first) → queued_at line m ≡ false
       by m before (inl later) = passed m later before
       by m before (inr sooner) = kept.numbered_work.passed m sooner
 
@@ -277,15 +277,16 @@ module _ (places : List (HeldValue Placed)) (issued : List ℕ) (line : List Num
     at-stage = ap (λ o. option_map_or (λ (x : NumberedWork). x.stage) o Done) there
 
     -- where it does not wait any more
-    pub passed-over : (s : QueueStage) → waiting_job s ≡ None → (m : ℕ) → waits (set line (n - 1) (with_stage s e)) m ≡ cond (n == m) false (waits line m)
+    pub passed-over : (s : QueueStage) → waiting_job s ≡ None → (m : ℕ) → queued_at (set line (n - 1) (with_stage s e)) m ≡ cond (n == m) false
+        (queued_at line m)
     passed-over s none m =
         stage-restaged line (set line (n - 1) (with_stage s e)) n e s (restaged line n e s there) (λ t. is_some (waiting_job t)) m
-        ∙ ap (λ o. cond (n == m) (is_some o) (waits line m)) none
+        ∙ ap (λ o. cond (n == m) (is_some o) (queued_at line m)) none
 
-    still-passed : (s : QueueStage) → waiting_job s ≡ None → (m : ℕ) → m ≤ first → waits (set line (n - 1) (with_stage s e)) m ≡ false
+    still-passed : (s : QueueStage) → waiting_job s ≡ None → (m : ℕ) → m ≤ first → queued_at (set line (n - 1) (with_stage s e)) m ≡ false
     still-passed s none m before = passed-over s none m ∙ by (n == m)
       where
-        by : (b : Bool) → cond b false (waits line m) ≡ false
+        by : (b : Bool) → cond b false (queued_at line m) ≡ false
         by true = refl
         by false = kept.numbered_work.passed m before
 
@@ -293,8 +294,8 @@ module _ (places : List (HeldValue Placed)) (issued : List ℕ) (line : List Num
         (set line (n - 1) (with_stage s e)) ≡ waiting_works line
     waiting-still s none none_before = waiting-same line (set line (n - 1) (with_stage s e)) (λ m. passed-over s none m ∙ by m (n == m) refl)
       where
-        by : (m : ℕ) (b : Bool) → (n == m) ≡ b → cond b false (waits line m) ≡ waits line m
-        by m true same = sym (ap (waits line) (sym (same-tells n m same)) ∙ ap (λ t. is_some (waiting_job t)) at-stage ∙ ap is_some none_before)
+        by : (m : ℕ) (b : Bool) → (n == m) ≡ b → cond b false (queued_at line m) ≡ queued_at line m
+        by m true same = sym (ap (queued_at line) (sym (same-tells n m same)) ∙ ap (λ t. is_some (waiting_job t)) at-stage ∙ ap is_some none_before)
         by m false same = refl
 
     -- where it does not run any more
@@ -310,7 +311,7 @@ module _ (places : List (HeldValue Placed)) (issued : List ℕ) (line : List Num
         by m true same = sym (ap (runner_at line) (sym (same-tells n m same)) ∙ ap runner at-stage ∙ none_before)
         by m false same = refl
 
-    waits-here : (job : JobSpec) → waiting_job e.stage ≡ Some job → waits line n ≡ true
+    waits-here : (job : JobSpec) → waiting_job e.stage ≡ Some job → queued_at line n ≡ true
     waits-here job is = ap (λ t. is_some (waiting_job t)) at-stage ∙ ap is_some is
 
     fewer-wait : (s : QueueStage) (job : JobSpec) → waiting_job s ≡ None → waiting_job e.stage ≡ Some job
@@ -399,7 +400,7 @@ module _ (places : List (HeldValue Placed)) (issued : List ℕ) (line : List Num
         queue_room = kept.room.queue_room;
         finished_room = omega (arith, kept.room.finished_room, fewer_is, queued-some n (waits-here job waits_for), length-append finished (o ∷ []));
       };
-      shut = λ shut. let none : waits line n ≡ false = sym (has-waiting line n) ∙ ap (has_number n)
+      shut = λ shut. let none : queued_at line n ≡ false = sym (has-waiting line n) ∙ ap (has_number n)
           (kept.shut shut) in let here = waits-here job waits_for in let no : ⊥ = cc in absurd no;
     })
       where
@@ -553,7 +554,7 @@ kept-new places issued line finished spare finished_places no_places no_issued n
     nobody zero w is = cc
     nobody (suc k) w is = cc
 
-    nothing : (n : ℕ) → waits [] n ≡ false
+    nothing : (n : ℕ) → queued_at [] n ≡ false
     nothing zero = refl
     nothing (suc k) = refl
 
@@ -563,22 +564,22 @@ kept-new places issued line finished spare finished_places no_places no_issued n
 
 -- where the first work that waits would stand
 module _ (line : List NumberedWork) (first next : ℕ) (numbered_work : IsQueue line first) (within : next ≤ length line) (passed : (m : ℕ) → first < m → m ≤ next
-    → waits line m ≡ false) where
-  before-next : (m : ℕ) → m ≤ next → waits line m ≡ false
+    → queued_at line m ≡ false) where
+  before-next : (m : ℕ) → m ≤ next → queued_at line m ≡ false
   before-next m before = by (cases_lt first m)
     where
-      by : (first < m) ⊎ (m ≤ first) → waits line m ≡ false
+      by : (first < m) ⊎ (m ≤ first) → queued_at line m ≡ false
       by (inl later) = passed m later before
       by (inr sooner) = numbered_work.passed m sooner
 
   pub none-waits : next ≡ length line → waiting_works line ≡ []
   none-waits at_end = waiting-none line (λ m. by m (cases_lt next m))
     where
-      by : (m : ℕ) → (next < m) ⊎ (m ≤ next) → waits line m ≡ false
+      by : (m : ℕ) → (next < m) ⊎ (m ≤ next) → queued_at line m ≡ false
       by m (inl past) = stage-past (λ s. is_some (waiting_job s)) line m (omega (arith, at_end, past))
       by m (inr before) = before-next m before
 
-  pub next-waits : waits line (next + 1) ≡ true → waiting_works line ≡ (next + 1) ∷ filter (λ m. not (m == next + 1)) (waiting_works line)
+  pub next-waits : queued_at line (next + 1) ≡ true → waiting_works line ≡ (next + 1) ∷ filter (λ m. not (m == next + 1)) (waiting_works line)
   next-waits here = waiting-first line (next + 1) here (λ m before. before-next m (omega (arith, before)))
 
 -- the others wait behind the first

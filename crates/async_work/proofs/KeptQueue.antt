@@ -7,7 +7,7 @@ use Rattle.std.proofs.lemmas.Option.{slice_get-get_or, slice_get-map, get_or_fro
 use Rattle.std.proofs.lemmas.Bool.{cases_lt}
 use Rattle.napi_types.specs.declared.call.JobSpec.{JobSpec}
 use Rattle.async_work.specs.declared.queue.Numbered.{Numbered}
-use Rattle.async_work.specs.Queue.{QueueStage, Waits, Runs, Ended, Done, NumberedWork, numbered_work, behind, stage_seen, entry_seen, queue_seen, waiting_job, runner, is_done_in_queue, waits, with_stage, with_stage_at, queue_work_at, queue_stage_at, queue_id_at}
+use Rattle.async_work.specs.Queue.{QueueStage, StillQueued, Runs, Ended, Done, NumberedWork, numbered_work, behind, stage_seen, entry_seen, queue_seen, waiting_job, runner, is_done_in_queue, queued_at, with_stage, with_stage_at, queue_work_at, queue_stage_at, queue_id_at}
 use Rattle.async_work.proofs.Queueing.{stage-in_line, id-in_line, stage-past}
 
 -- what stands behind those that are not kept
@@ -132,35 +132,35 @@ module _ {J : Type 0} (spec : J → JobSpec) (dropped : ℕ) (line : List (Numbe
 
 -- WHAT A STAGE RULES OUT
 pub waits-unfinished : (s : QueueStage) → IsSome (waiting_job s) → is_done_in_queue s ≡ false
-waits-unfinished (Waits job) is = refl
+waits-unfinished (StillQueued job) is = refl
 waits-unfinished (Runs w) is = let no : ⊥ = cc in absurd no
 waits-unfinished Ended is = let no : ⊥ = cc in absurd no
 waits-unfinished Done is = let no : ⊥ = cc in absurd no
 
 pub runs-unfinished : (s : QueueStage) → IsSome (runner s) → is_done_in_queue s ≡ false
-runs-unfinished (Waits job) is = let no : ⊥ = cc in absurd no
+runs-unfinished (StillQueued job) is = let no : ⊥ = cc in absurd no
 runs-unfinished (Runs w) is = refl
 runs-unfinished Ended is = let no : ⊥ = cc in absurd no
 runs-unfinished Done is = let no : ⊥ = cc in absurd no
 
 done-entry : (id : ℕ) (s : QueueStage) → is_done_in_queue s ≡ true → numbered_work id s ≡ numbered_work 0 Done
-done-entry id (Waits job) is = let no : ⊥ = cc in absurd no
+done-entry id (StillQueued job) is = let no : ⊥ = cc in absurd no
 done-entry id (Runs w) is = let no : ⊥ = cc in absurd no
 done-entry id Ended is = let no : ⊥ = cc in absurd no
 done-entry id Done is = refl
 
 -- which of them wait
-pub waits-behind : (dropped : ℕ) (line : List NumberedWork) (n : ℕ) → dropped < n → waits (behind dropped line) n ≡ waits line (n - dropped)
+pub waits-behind : (dropped : ℕ) (line : List NumberedWork) (n : ℕ) → dropped < n → queued_at (behind dropped line) n ≡ queued_at line (n - dropped)
 waits-behind dropped line n above = by (n - dropped) refl
   where
-    by : (k : ℕ) → n - dropped ≡ k → waits (behind dropped line) n ≡ waits line k
+    by : (k : ℕ) → n - dropped ≡ k → queued_at (behind dropped line) n ≡ queued_at line k
     by zero is = absurd (omega (arith, is, above))
     by (suc at) is =
         ap (λ o. is_some (waiting_job (option_map_or (λ (x : NumberedWork). x.stage) o Done))) (work-behind dropped line at n (omega (arith, is, above)))
 
 module _ {J : Type 0} (spec : J → JobSpec) where
   pub waits-kept : (line : List (Numbered J)) (at : ℕ) (x : Numbered J) (b : Bool) → x ≡ get_or line at x → at < length line
-      → b ≡ is_some (waiting_job (stage_seen spec x.stage)) → waits (queue_seen spec 0 line) (at + 1) ≡ b
+      → b ≡ is_some (waiting_job (stage_seen spec x.stage)) → queued_at (queue_seen spec 0 line) (at + 1) ≡ b
   waits-kept line at x b here within is =
       ap (λ s. is_some (waiting_job s))
       (stage-read spec 0 line at (at + 1) x (first at) within ∙ ap (λ (y : Numbered J). stage_seen spec y.stage) (sym here)) ∙ sym is

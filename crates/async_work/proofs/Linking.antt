@@ -7,7 +7,7 @@ use Rattle.std.proofs.lemmas.List.Sums.{sum_by-cons, sum_by-append, get_or-le-su
 use Rattle.std.proofs.lemmas.List.Elements.{All-append, All-cons, All-nil, All-head, All-tail}
 use Rattle.napi_types.proofs.plain.Found.{same-self, same-tells, apart-above}
 use Rattle.async_work.specs.WorkPlaces.{Placed, place_at, with_place_number}
-use Rattle.async_work.specs.Queue.{QueueStage, Waits, Runs, Ended, Done, NumberedWork, CameOut, waiting_job, has_ended, is_done_in_queue, with_stage, queue_work_at, queue_stage_at, queue_id_at, ended_at}
+use Rattle.async_work.specs.Queue.{QueueStage, StillQueued, Runs, Ended, Done, NumberedWork, CameOut, waiting_job, has_ended, is_done_in_queue, with_stage, queue_work_at, queue_stage_at, queue_id_at, ended_at}
 use Rattle.async_work.specs.KeptPool.{StandsInQueue, KeepsJob, IsNumberOf, AreLinked, CameOutOnce}
 use Rattle.async_work.proofs.Ids.{Replaced}
 use Rattle.async_work.proofs.Queueing.{Restaged, stage-restaged, id-restaged, id-other, entry-push, stage-push, stage-past, stage-in_line, id-in_line}
@@ -210,7 +210,7 @@ linked-restaged places line others n e s linked change no_job before_open = reco
 
 -- WHAT CAME OUT
 pub ended-unfinished : (s : QueueStage) → has_ended s ≡ true → is_done_in_queue s ≡ false
-ended-unfinished (Waits spec) is = refl
+ended-unfinished (StillQueued spec) is = refl
 ended-unfinished (Runs w) is = refl
 ended-unfinished Ended is = refl
 ended-unfinished Done is = let no : ⊥ = cc in absurd no

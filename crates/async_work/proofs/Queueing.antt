@@ -10,19 +10,19 @@ use Rattle.napi_types.specs.plain.Lists.{found, has_number, one}
 use Rattle.napi_types.proofs.plain.Found.{IsRising, same-self, same-tells, found-same, found-filter, rising-filter, has-found, turned}
 use Rattle.napi_types.proofs.plain.Maps.{all-among}
 use Rattle.async_work.specs.declared.queue.EndedWork as code
-use Rattle.async_work.specs.Queue.{QueueStage, Waits, Runs, Ended, Done, NumberedWork, numbered_work, outcome_seen, outcomes_seen, waiting_job, is_done_in_queue, with_stage, with_stage_at, queue_work_at, queue_stage_at, queue_id_at, waits, listed_number, waiting_works}
+use Rattle.async_work.specs.Queue.{QueueStage, StillQueued, Runs, Ended, Done, NumberedWork, numbered_work, outcome_seen, outcomes_seen, waiting_job, is_done_in_queue, with_stage, with_stage_at, queue_work_at, queue_stage_at, queue_id_at, queued_at, listed_number, waiting_works}
 use Rattle.napi_types.proofs.plain.Counted.{element-set, element-push, element-past, listed-push, listed-rising, found-listed}
 use Rattle.async_work.proofs.CountingWorks.{length-without}
 
 -- a work in the queue has its stage, and its id as long as its completion has not begun
 pub stage-in_line : (id : ℕ) (s : QueueStage) → (numbered_work id s).stage ≡ s
-stage-in_line id (Waits job) = refl
+stage-in_line id (StillQueued job) = refl
 stage-in_line id (Runs w) = refl
 stage-in_line id Ended = refl
 stage-in_line id Done = refl
 
 pub id-in_line : (id : ℕ) (s : QueueStage) → is_done_in_queue s ≡ false → (numbered_work id s).id ≡ id
-id-in_line id (Waits job) unfinished = refl
+id-in_line id (StillQueued job) unfinished = refl
 id-in_line id (Runs w) unfinished = refl
 id-in_line id Ended unfinished = refl
 id-in_line id Done unfinished = let no : ⊥ = cc in absurd no
@@ -78,7 +78,7 @@ stage-push {B} f line e m = ap (λ o. f (option_map_or (λ (x : NumberedWork). x
 pub stage-past : {B : Type 0} (f : QueueStage → B) (line : List NumberedWork) (m : ℕ) → length line < m → f (queue_stage_at line m) ≡ f Done
 stage-past f line m past = ap (λ o. f (option_map_or (λ (x : NumberedWork). x.stage) o Done)) (element-past line m past)
 
-pub waits-within : (line : List NumberedWork) (n : ℕ) → waits line n ≡ true → (e : NumberedWork) × (s : JobSpec) × (queue_work_at line n ≡ Some e) ×
+pub waits-within : (line : List NumberedWork) (n : ℕ) → queued_at line n ≡ true → (e : NumberedWork) × (s : JobSpec) × (queue_work_at line n ≡ Some e) ×
     (waiting_job e.stage ≡ Some s)
 waits-within line n is = by (queue_work_at line n) refl is
   where
@@ -103,7 +103,7 @@ keeps-number n e m is = by (waiting_job e.stage) is
 pub rising-waiting : (line : List NumberedWork) → IsRising (λ (m : ℕ). m) (waiting_works line)
 rising-waiting line = listed-rising listed_number (λ m. m) keeps-number 1 line
 
-pub found-waiting : (line : List NumberedWork) (n : ℕ) → found (λ m. m) n (waiting_works line) ≡ cond (waits line n) (Some n) None
+pub found-waiting : (line : List NumberedWork) (n : ℕ) → found (λ m. m) n (waiting_works line) ≡ cond (queued_at line n) (Some n) None
 found-waiting line n = found-listed listed_number (λ m. m) keeps-number n line ∙ by (queue_work_at line n)
   where
     job : (o : Option JobSpec) → option_map (λ _. n) o ≡ cond (is_some o) (Some n) None
@@ -115,28 +115,28 @@ found-waiting line n = found-listed listed_number (λ m. m) keeps-number n line 
     by None = refl
     by (Some e) = job (waiting_job e.stage)
 
-pub has-waiting : (line : List NumberedWork) (n : ℕ) → has_number n (waiting_works line) ≡ waits line n
-has-waiting line n = has-found (λ m. m) n (waiting_works line) ∙ ap is_some (found-waiting line n) ∙ by (waits line n)
+pub has-waiting : (line : List NumberedWork) (n : ℕ) → has_number n (waiting_works line) ≡ queued_at line n
+has-waiting line n = has-found (λ m. m) n (waiting_works line) ∙ ap is_some (found-waiting line n) ∙ by (queued_at line n)
   where
     by : (b : Bool) → is_some (cond b (Some n) None) ≡ b
     by true = refl
     by false = refl
 
-pub waiting-same : (line others : List NumberedWork) → ((m : ℕ) → waits others m ≡ waits line m) → waiting_works others ≡ waiting_works line
+pub waiting-same : (line others : List NumberedWork) → ((m : ℕ) → queued_at others m ≡ queued_at line m) → waiting_works others ≡ waiting_works line
 waiting-same line others same =
     found-same (λ m. m) (waiting_works others) (waiting_works line) (rising-waiting others) (rising-waiting line)
     (λ m. found-waiting others m ∙ ap (λ b. cond b (Some m) None) (same m) ∙ sym (found-waiting line m))
 
 -- one waits no longer
-pub waiting-less : (line others : List NumberedWork) (n : ℕ) → ((m : ℕ) → waits others m ≡ cond (n == m) false (waits line m))
+pub waiting-less : (line others : List NumberedWork) (n : ℕ) → ((m : ℕ) → queued_at others m ≡ cond (n == m) false (queued_at line m))
     → waiting_works others ≡ filter (λ m. not (m == n)) (waiting_works line)
 waiting-less line others n less =
     found-same (λ m. m) (waiting_works others) (filter (λ m. not (m == n)) (waiting_works line)) (rising-waiting others) (rising-filter (λ m. m) (λ m. not (m == n))
     (waiting_works line) (rising-waiting line))
-    (λ m. found-waiting others m ∙ ap (λ b. cond b (Some m) None) (less m ∙ ap (λ b. cond b false (waits line m)) (turned n m)) ∙ by m (m == n)
+    (λ m. found-waiting others m ∙ ap (λ b. cond b (Some m) None) (less m ∙ ap (λ b. cond b false (queued_at line m)) (turned n m)) ∙ by m (m == n)
     ∙ ap (λ o. cond (not (m == n)) o None) (sym (found-waiting line m)) ∙ sym (found-filter (λ m. m) (λ k. not (k == n)) m (waiting_works line)))
   where
-    by : (m : ℕ) (b : Bool) → cond (cond b false (waits line m)) (Some m) None ≡ cond (not b) (cond (waits line m) (Some m) None) None
+    by : (m : ℕ) (b : Bool) → cond (cond b false (queued_at line m)) (Some m) None ≡ cond (not b) (cond (queued_at line m) (Some m) None) None
     by m true = refl
     by m false = refl
 
@@ -149,14 +149,14 @@ waiting-more line e s is = listed-push listed_number 1 line e ∙ ap (λ o. wait
     next : (n : ℕ) → 1 + n ≡ n + 1
     next n = omega arith
 
-pub waiting-none : (line : List NumberedWork) → ((m : ℕ) → waits line m ≡ false) → waiting_works line ≡ []
+pub waiting-none : (line : List NumberedWork) → ((m : ℕ) → queued_at line m ≡ false) → waiting_works line ≡ []
 waiting-none line none = found-same (λ m. m) (waiting_works line) [] (rising-waiting line) tt (λ m. found-waiting line m ∙ ap (λ b. cond b (Some m) None) (none m))
 
 upper : (m n : ℕ) → (m == n) ≡ false → nat_lt m n ≡ false → n < m
 upper m n h k = grind arith
 
 -- the first that waits
-pub waiting-first : (line : List NumberedWork) (n : ℕ) → waits line n ≡ true → ((m : ℕ) → m < n → waits line m ≡ false)
+pub waiting-first : (line : List NumberedWork) (n : ℕ) → queued_at line n ≡ true → ((m : ℕ) → m < n → queued_at line m ≡ false)
     → waiting_works line ≡ n ∷ filter (λ m. not (m == n)) (waiting_works line)
 waiting-first line n here passed =
     found-same (λ m. m) (waiting_works line) (n ∷ rest) (rising-waiting line) (
@@ -168,23 +168,23 @@ waiting-first line n here passed =
     rest : List ℕ
     rest = filter (λ m. not (m == n)) (waiting_works line)
 
-    found-rest : (m : ℕ) → found (λ m. m) m rest ≡ cond (not (m == n)) (cond (waits line m) (Some m) None) None
+    found-rest : (m : ℕ) → found (λ m. m) m rest ≡ cond (not (m == n)) (cond (queued_at line m) (Some m) None) None
     found-rest m = found-filter (λ m. m) (λ k. not (k == n)) m (waiting_works line) ∙ ap (λ o. cond (not (m == n)) o None) (found-waiting line m)
 
     later : (m : ℕ) → has_number m rest ≡ true → n < m
-    later m is = case (m == n) (waits line m) (nat_lt m n) refl refl refl (sym (ap is_some (found-rest m)) ∙ sym (has-found (λ m. m) m rest) ∙ is)
+    later m is = case (m == n) (queued_at line m) (nat_lt m n) refl refl refl (sym (ap is_some (found-rest m)) ∙ sym (has-found (λ m. m) m rest) ∙ is)
       where
-        case : (a b c : Bool) → (m == n) ≡ a → waits line m ≡ b → nat_lt m n ≡ c → is_some (cond (not a) (cond b (Some m) None) None) ≡ true → n < m
+        case : (a b c : Bool) → (m == n) ≡ a → queued_at line m ≡ b → nat_lt m n ≡ c → is_some (cond (not a) (cond b (Some m) None) None) ≡ true → n < m
         case true b c same waiting_is before passes = let no : ⊥ = cc in absurd no
         case false false c same waiting_is before passes = let no : ⊥ = cc in absurd no
-        case false true true same waiting_is before passes = let no : ⊥ = let it : waits line m ≡ false = passed m (ltb-true m n before) in cc in absurd no
+        case false true true same waiting_is before passes = let no : ⊥ = let it : queued_at line m ≡ false = passed m (ltb-true m n before) in cc in absurd no
         case false true false same waiting_is before passes = upper m n same before
 
-    by : (m : ℕ) (b : Bool) → (n == m) ≡ b → cond (waits line m) (Some m) None ≡ cond b (Some n) (found (λ m. m) m rest)
-    by m true same = let one : n ≡ m = same-tells n m same in ap (λ k. cond (waits line k) (Some k) None) (sym one) ∙ ap (λ b. cond b (Some n) None) here
-    by m false same = ap (λ b. cond (not b) (cond (waits line m) (Some m) None) None) (sym (turned m n ∙ same)) ∙ sym (found-rest m)
+    by : (m : ℕ) (b : Bool) → (n == m) ≡ b → cond (queued_at line m) (Some m) None ≡ cond b (Some n) (found (λ m. m) m rest)
+    by m true same = let one : n ≡ m = same-tells n m same in ap (λ k. cond (queued_at line k) (Some k) None) (sym one) ∙ ap (λ b. cond b (Some n) None) here
+    by m false same = ap (λ b. cond (not b) (cond (queued_at line m) (Some m) None) None) (sym (turned m n ∙ same)) ∙ sym (found-rest m)
 
-pub head-first : (line : List NumberedWork) (n : ℕ) (ns : List ℕ) → waiting_works line ≡ n ∷ ns → waits line n ≡ true
+pub head-first : (line : List NumberedWork) (n : ℕ) (ns : List ℕ) → waiting_works line ≡ n ∷ ns → queued_at line n ≡ true
 head-first line n ns is = sym (has-waiting line n) ∙ ap (has_number n) is ∙ by (n == n) (same-self n)
   where
     by : (b : Bool) → b ≡ true → (b || has_number n ns) ≡ true
@@ -192,11 +192,11 @@ head-first line n ns is = sym (has-waiting line n) ∙ ap (has_number n) is ∙ 
     by false h = let no : ⊥ = cc in absurd no
 
 -- a work waits that the pool says to
-pub waits-of : (line : List NumberedWork) (ns : List ℕ) (n : ℕ) → waiting_works line ≡ ns → has_number n ns ≡ true → waits line n ≡ true
+pub waits-of : (line : List NumberedWork) (ns : List ℕ) (n : ℕ) → waiting_works line ≡ ns → has_number n ns ≡ true → queued_at line n ≡ true
 waits-of line ns n are here = sym (has-waiting line n) ∙ ap (has_number n) are ∙ here
 
 -- how many wait where one waits no longer
-pub length-less : (line : List NumberedWork) (n : ℕ) → waits line n ≡ true
+pub length-less : (line : List NumberedWork) (n : ℕ) → queued_at line n ≡ true
     → length (filter (λ m. not (m == n)) (waiting_works line)) + 1 ≡ length (waiting_works line)
 length-less line n is = length-without (λ m. m) n (waiting_works line) n (rising-waiting line) (found-waiting line n ∙ ap (λ b. cond b (Some n) None) is)
 

@@ -11,7 +11,7 @@ use Rattle.napi_types.specs.parts.Pool.{WorkPool, work_at, work_numbered, number
 use Rattle.napi_types.specs.parts.Works.{Work, WorkState, Created, Queued, Running, Finished, Completed, Outcome, is_created, is_deletable}
 use Rattle.napi_types.proofs.plain.Found.{IsRising}
 use Rattle.async_work.specs.WorkPlaces.{Placed, place_at, work_of}
-use Rattle.async_work.specs.Queue.{QueueStage, Waits, Runs, Ended, Done, NumberedWork, CameOut, outcome_of, outcome_status, waiting_job, runner, has_ended, is_done_in_queue, stage_state, queue_work_at, queue_stage_at, queue_id_at, waits, ended_at}
+use Rattle.async_work.specs.Queue.{QueueStage, StillQueued, Runs, Ended, Done, NumberedWork, CameOut, outcome_of, outcome_status, waiting_job, runner, has_ended, is_done_in_queue, stage_state, queue_work_at, queue_stage_at, queue_id_at, queued_at, ended_at}
 use Rattle.async_work.specs.KeptPool.{pool_of, StandsInQueue, IsNumberOf, IsKeptPool}
 use Rattle.async_work.specs.declared.pool.WorkProgress.{WorkProgress}
 use Rattle.async_work.specs.declared.pool.WorkProgress.TheVariants as state
@@ -54,7 +54,7 @@ module _ (places : List (HeldValue Placed)) (issued : List ℕ) (line : List Num
     where
       by : (s : QueueStage) (a b c : Bool) → a ≡ is_some (waiting_job s) → b ≡ is_some (runner s) → c ≡ has_ended s
           → cond a Queued (cond b Running (cond c Finished Completed)) ≡ stage_state s
-      by (Waits spec) a b c is_a is_b is_c = rw is_a refl
+      by (StillQueued spec) a b c is_a is_b is_c = rw is_a refl
       by (Runs w) a b c is_a is_b is_c = rw (is_a, is_b) refl
       by Ended a b c is_a is_b is_c = rw (is_a, is_b, is_c) refl
       by Done a b c is_a is_b is_c = rw (is_a, is_b, is_c) refl
@@ -114,7 +114,7 @@ pub created-none : (line : List NumberedWork) (p : Placed) → place_state line 
 created-none line p is = by p.number is
   where
     never : (s : QueueStage) → stage_state s ≡ Created → ⊥
-    never (Waits spec) told = cc
+    never (StillQueued spec) told = cc
     never (Runs w) told = cc
     never Ended told = cc
     never Done told = cc
@@ -133,16 +133,16 @@ pub completed-done : (line : List NumberedWork) (p : Placed) → place_state lin
 completed-done line p is n number = over (queue_stage_at line n) (sym (ap (λ o. option_map_or (numbered_state line) o Created) number) ∙ is)
   where
     over : (s : QueueStage) → stage_state s ≡ Completed → is_done_in_queue s ≡ true
-    over (Waits spec) told = let no : ⊥ = cc in absurd no
+    over (StillQueued spec) told = let no : ⊥ = cc in absurd no
     over (Runs w) told = let no : ⊥ = cc in absurd no
     over Ended told = let no : ⊥ = cc in absurd no
     over Done told = refl
 
-pub queued-waits : (line : List NumberedWork) (p : Placed) (n : ℕ) → place_state line p ≡ Queued → p.number ≡ Some n → waits line n ≡ true
+pub queued-waits : (line : List NumberedWork) (p : Placed) (n : ℕ) → place_state line p ≡ Queued → p.number ≡ Some n → queued_at line n ≡ true
 queued-waits line p n is number = here (queue_stage_at line n) (sym (ap (λ o. option_map_or (numbered_state line) o Created) number) ∙ is)
   where
     here : (s : QueueStage) → stage_state s ≡ Queued → is_some (waiting_job s) ≡ true
-    here (Waits spec) told = refl
+    here (StillQueued spec) told = refl
     here (Runs w) told = let no : ⊥ = cc in absurd no
     here Ended told = let no : ⊥ = cc in absurd no
     here Done told = let no : ⊥ = cc in absurd no
@@ -160,7 +160,7 @@ pub unqueued-created : (line : List NumberedWork) (p : Placed) (s : WorkState) �
 unqueued-created line p s is = by p.number ∙ ap is_created is
   where
     staged : (t : QueueStage) → false ≡ is_created (stage_state t)
-    staged (Waits spec) = refl
+    staged (StillQueued spec) = refl
     staged (Runs w) = refl
     staged Ended = refl
     staged Done = refl

@@ -5,7 +5,7 @@ use Rattle.generation_slab.specs.HeldPlaces.{HeldValue}
 use Rattle.napi_types.specs.plain.Lists.{has_number}
 use Rattle.napi_types.specs.parts.Pool.{WorkPool}
 use Rattle.async_work.specs.WorkPlaces.{Placed, place_at, is_unqueued, works_of}
-use Rattle.async_work.specs.Queue.{NumberedWork, CameOut, outcome_of, is_done_in_queue, waiting_job, queue_work_at, queue_stage_at, queue_id_at, waits, runner_at, ended_at, waiting_works, executions}
+use Rattle.async_work.specs.Queue.{NumberedWork, CameOut, outcome_of, is_done_in_queue, waiting_job, queue_work_at, queue_stage_at, queue_id_at, queued_at, runner_at, ended_at, waiting_works, executions}
 
 abbrev pub pool_of : List (HeldValue Placed) → List ℕ → List NumberedWork → List CameOut → Bool → WorkPool
 pool_of places issued line finished closing = record {
@@ -47,7 +47,7 @@ HaveIssuedIds places issued = (id : ℕ) (p : Placed) → place_at places id ≡
 pub record IsQueue (line : List NumberedWork) (first : ℕ) : Type 0 where
   pub apart : (n m worker : ℕ) → runner_at line n ≡ Some worker → runner_at line m ≡ Some worker → n ≡ m
   pub within : first ≤ length line
-  pub passed : (n : ℕ) → n ≤ first → waits line n ≡ false
+  pub passed : (n : ℕ) → n ≤ first → queued_at line n ≡ false
 
 -- each work that has ended came out once, with the job that it should have
 pub record CameOutOnce (places : List (HeldValue Placed)) (line : List NumberedWork) (finished : List CameOut) : Type 0 where

@@ -14,9 +14,9 @@ use Rattle.async_work.specs.declared.queue.EndedWork as code
 use Rattle.async_work.specs.declared.queue.WorkStage.{WorkStage}
 use Rattle.async_work.specs.declared.queue.WorkStage.TheVariants as stage
 
--- how far a work that was queued has come: it waits with a job that computes this, a worker runs it, it has ended, or its completion has begun
+-- how far a work that was queued has come: it is still queued with a job that computes this, a worker runs it, it has ended, or its completion has begun
 pub data QueueStage : Type 0 where
-  Waits : JobSpec → QueueStage
+  StillQueued : JobSpec → QueueStage
   Runs : ℕ → QueueStage
   Ended : QueueStage
   Done : QueueStage
@@ -49,7 +49,7 @@ pub record CameOut : Type 0 where
 
 module _ {J : Type 0} (spec : J → JobSpec) where
   abbrev pub stage_seen : WorkStage J → QueueStage
-  stage_seen (stage.Queued job slip) = Waits (spec job)
+  stage_seen (stage.Queued job slip) = StillQueued (spec job)
   stage_seen (stage.Running worker slip) = Runs worker
   stage_seen stage.Finished = Ended
   stage_seen stage.Completed = Done
@@ -91,7 +91,7 @@ outcome_of o = record { work = o.number; status = outcome_status o.unspent; valu
 
 -- STAGES
 abbrev pub waiting_job : QueueStage → Option JobSpec
-waiting_job (Waits spec) = Some spec
+waiting_job (StillQueued spec) = Some spec
 waiting_job _ = None
 
 abbrev pub runner : QueueStage → Option ℕ
@@ -107,7 +107,7 @@ is_done_in_queue Done = true
 is_done_in_queue _ = false
 
 abbrev pub stage_state : QueueStage → WorkState
-stage_state (Waits spec) = Queued
+stage_state (StillQueued spec) = Queued
 stage_state (Runs worker) = Running
 stage_state Ended = Finished
 stage_state Done = Completed
@@ -131,8 +131,8 @@ abbrev pub with_stage_at : ℕ → QueueStage → List NumberedWork → List Num
 with_stage_at n s line = slice_set line (n - 1) (with_stage s (slice_index_or line (n - 1) (numbered_work 0 Done)))
 
 -- it waits for a worker
-abbrev pub waits : List NumberedWork → ℕ → Bool
-waits line n = is_some (waiting_job (queue_stage_at line n))
+abbrev pub queued_at : List NumberedWork → ℕ → Bool
+queued_at line n = is_some (waiting_job (queue_stage_at line n))
 
 -- the worker that executes it
 abbrev pub runner_at : List NumberedWork → ℕ → Option ℕ

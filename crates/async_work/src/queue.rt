@@ -4,7 +4,7 @@ ghost use Rattle.std.specs.Prelude.{◌≡◌, ℕ, ◌+◌, ◌++◌, ◌<◌, 
 ghost use Rattle.std.specs.Option.{is_some, option_map_or};
 ghost use Rattle.std.specs.VecDeque.{deque_capacity, deque_len};
 ghost use Rattle.napi_types.specs.plain.Lists.{one};
-ghost use Rattle.async_work.specs.Queue.{queue_seen, stage_seen, queue_stage_at, queue_id_at, waiting_job, runner, has_ended, is_done_in_queue, with_stage_at, waits, Waits, Runs, Ended, Done};
+ghost use Rattle.async_work.specs.Queue.{queue_seen, stage_seen, queue_stage_at, queue_id_at, waiting_job, runner, has_ended, is_done_in_queue, with_stage_at, queued_at, StillQueued, Runs, Ended, Done};
 ghost use Rattle.async_work.specs.Queue.{outcome_seen, ran_outcome, unstarted_outcome};
 
 use crate::Job;
@@ -106,7 +106,7 @@ impl<J: Job> WorkQueue<J> {
         requires room { 0 < self.old.room }
         requires few { length self.old.works + 2 < 2 ^ 64 }
         ensures number { result ≡ length self.old.works + 1 }
-        ensures longer { self.new.works ≡ self.old.works ++ one (record { id = id; stage = Waits (J.spec job) }) }
+        ensures longer { self.new.works ≡ self.old.works ++ one (record { id = id; stage = StillQueued (J.spec job) }) }
         ensures room { self.new.room + 1 ≡ self.old.room }
     {
         let number = self.dropped + self.works.len() as u64 + 1;
@@ -129,8 +129,8 @@ impl<J: Job> WorkQueue<J> {
     pub(crate) fn next_queued(&self, from: u64) -> u64
         requires { from ≤ length self.now.works }
         ensures within { (from ≤ result) × (result ≤ length self.now.works) }
-        ensures passed { (n : ℕ) → from < n → n ≤ result → waits self.now.works n ≡ false }
-        ensures queued { result < length self.now.works → waits self.now.works (result + 1) ≡ true }
+        ensures passed { (n : ℕ) → from < n → n ≤ result → queued_at self.now.works n ≡ false }
+        ensures queued { result < length self.now.works → queued_at self.now.works (result + 1) ≡ true }
     {
         let first = from.saturating_sub(self.dropped) as usize;
         let place = next_queued(&self.works, first);
@@ -197,8 +197,8 @@ impl<J: Job> WorkQueue<J> {
 fn next_queued<J: Job>(works: &VecDeque<Numbered<J>>, from: usize) -> usize
     requires { from ≤ length works.now.items }
     ensures within { (from ≤ result) × (result ≤ length works.now.items) }
-    ensures passed { (n : ℕ) → from < n → n ≤ result → waits (queue_seen J.spec 0 works.now.items) n ≡ false }
-    ensures queued { result < length works.now.items → waits (queue_seen J.spec 0 works.now.items) (result + 1) ≡ true }
+    ensures passed { (n : ℕ) → from < n → n ≤ result → queued_at (queue_seen J.spec 0 works.now.items) n ≡ false }
+    ensures queued { result < length works.now.items → queued_at (queue_seen J.spec 0 works.now.items) (result + 1) ≡ true }
 {
     for place in from..works.len() {
         if is_queued(&works[place]) {

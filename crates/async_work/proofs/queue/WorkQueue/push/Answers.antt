@@ -1,5 +1,5 @@
 use Rattle.std.proofs.Common.{◌∙◌, ◌++◌, [], ◌∷◌, length, ap, arith}
-use Rattle.async_work.specs.Queue.{QueueSeen, Waits, queue_seen}
+use Rattle.async_work.specs.Queue.{QueueSeen, StillQueued, queue_seen}
 use Rattle.async_work.proofs.KeptQueue.{length-line, line-push}
 use Rattle.async_work.proofs.queue.WorkQueue.push.Goals as goal
 
@@ -29,4 +29,4 @@ pub returns-clause-longer : goal.returns-clause-longer
 returns-clause-longer g c =
     ap (queue_seen g.J.Job.spec c.self.inside.dropped) c.push_back_reserved.ensures.items
     ∙ line-push g.J.Job.spec c.self.inside.dropped c.self.inside.works.items _ ∙ ap
-    (λ (l : QueueSeen). l.works ++ record { id = c.args.id; stage = Waits (g.J.Job.spec c.args.job) } ∷ []) c.self.view_is
+    (λ (l : QueueSeen). l.works ++ record { id = c.args.id; stage = StillQueued (g.J.Job.spec c.args.job) } ∷ []) c.self.view_is
