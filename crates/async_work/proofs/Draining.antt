@@ -48,7 +48,7 @@ module _ (start p q : WorkPool) (n : ℕ) (first : head p.queued ≡ Some n) (re
   pub draining-less : length q.queued < length p.queued
   draining-less = omega (arith, ap length later, ap length (first-of p.queued n first))
 
--- all came out
+-- all have ended
 pub draining-end : (start p : WorkPool) → IsDraining start p → head p.queued ≡ None → record p { closing = true } ≡ drained start
 draining-end start p so_far none =
     let empty : p.queued ≡ [] = none-first p.queued none in

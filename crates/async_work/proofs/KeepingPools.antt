@@ -10,8 +10,8 @@ use Rattle.napi_types.specs.plain.Lists.{found, has_number, with_record, with_nu
 use Rattle.napi_types.proofs.plain.Found.{IsRising, same-self, same-tells, apart-above}
 use Rattle.napi_types.proofs.plain.Maps.{filter_all}
 use Rattle.async_work.specs.WorkPlaces.{Placed, place_at, is_unqueued, with_place_number, with_number_at}
-use Rattle.async_work.specs.Queue.{QueueStage, StillQueued, Runs, Ended, Done, NumberedWork, CameOut, waiting_job, runner, has_ended, is_done_in_queue, with_stage, queue_work_at, queue_stage_at, queued_at, runner_at, ended_at, waiting_works, executions}
-use Rattle.async_work.specs.KeptPool.{KeepsJob, IsQueue, CameOutOnce, IsKeptPool}
+use Rattle.async_work.specs.Queue.{QueueStage, StillQueued, Runs, Ended, Done, NumberedWork, EndedWorkSeen, waiting_job, runner, has_ended, is_done_in_queue, with_stage, queue_work_at, queue_stage_at, queued_at, runner_at, ended_at, waiting_works, executions}
+use Rattle.async_work.specs.KeptPool.{KeepsJob, IsQueue, EndedOnce, IsKeptPool}
 use Rattle.async_work.proofs.Ids.{Replaced, replaced-made, replaced-freed, replaced-numbered, held-at, none-held, new-absent, issued-made, issued-freed, issued-kept, length-issued}
 use Rattle.async_work.proofs.Mapped.{count-less, count-more, count-changed}
 use Rattle.async_work.proofs.Queueing.{Restaged, restaged, stage-restaged, stage-push, stage-past, waiting-same, waiting-less, waiting-more, waiting-none, waiting-first, has-waiting, length-less}
@@ -72,7 +72,7 @@ runner-queued line e job waits_for m = stage-push runner line e m ∙ by (length
     by false same = refl
 
 -- ROOM
-module _ (places : List (HeldValue Placed)) (issued : List ℕ) (line : List NumberedWork) (finished : List CameOut) (first created queued running : ℕ)
+module _ (places : List (HeldValue Placed)) (issued : List ℕ) (line : List NumberedWork) (finished : List EndedWorkSeen) (first created queued running : ℕ)
     (closing : Bool)
     (spare finished_places : ℕ)
     (kept : IsKeptPool places issued line finished first created queued running closing spare finished_places) where
@@ -118,7 +118,7 @@ module _ (places : List (HeldValue Placed)) (issued : List ℕ) (line : List Num
     known = kept.known;
     linked = kept.linked;
     numbered_work = kept.numbered_work;
-    came_out = kept.came_out;
+    ended_once = kept.ended_once;
     room = record {
       created_are = kept.room.created_are;
       queued_are = kept.room.queued_are;
@@ -140,7 +140,7 @@ module _ (places : List (HeldValue Placed)) (issued : List ℕ) (line : List Num
     known = issued-made places (with_held id p places) issued id p change kept.known;
     linked = linked-created places (with_held id p places) line id p kept.linked absent change none held;
     numbered_work = kept.numbered_work;
-    came_out = out-created places (with_held id p places) line finished id p none change kept.came_out;
+    ended_once = out-created places (with_held id p places) line finished id p none change kept.ended_once;
     room = record {
       created_are = omega (arith, kept.room.created_are, more_is, counted, counts);
       queued_are = kept.room.queued_are;
@@ -174,7 +174,7 @@ module _ (places : List (HeldValue Placed)) (issued : List ℕ) (line : List Num
     known = issued-freed places (without_held id places) issued id change kept.known;
     linked = linked-deleted places (without_held id places) line id p kept.linked is change done;
     numbered_work = kept.numbered_work;
-    came_out = out-deleted places (without_held id places) line finished id kept.came_out change;
+    ended_once = out-deleted places (without_held id places) line finished id kept.ended_once change;
     room = record {
       created_are = omega (arith, kept.room.created_are, fewer_is, counted);
       queued_are = kept.room.queued_are;
@@ -207,7 +207,7 @@ module _ (places : List (HeldValue Placed)) (issued : List ℕ) (line : List Num
       within = omega (arith, longer, kept.numbered_work.within);
       passed = λ m before. still m before;
     };
-    came_out = out-queued places (with_number_at id n places) line finished id n p e kept.came_out number change only.lives;
+    ended_once = out-queued places (with_number_at id n places) line finished id n p e kept.ended_once number change only.lives;
     room = record {
       created_are = omega (arith, kept.room.created_are, fewer_is, counted, counts);
       queued_are = omega (
@@ -262,7 +262,7 @@ module _ (places : List (HeldValue Placed)) (issued : List ℕ) (line : List Num
     known = kept.known;
     linked = kept.linked;
     numbered_work = record { apart = kept.numbered_work.apart; within = within; passed = λ m before. by m before (cases_lt first m) };
-    came_out = kept.came_out;
+    ended_once = kept.ended_once;
     room = kept.room;
     shut = kept.shut;
   }
@@ -359,7 +359,7 @@ module _ (places : List (HeldValue Placed)) (issued : List ℕ) (line : List Num
         known = kept.known;
         linked = linked-restaged places line (set line (n - 1) (with_stage (Runs w) e)) n e (Runs w) kept.linked change refl (λ _. only.unfinished);
         numbered_work = record { apart = apart-now; within = omega (arith, change.long, kept.numbered_work.within); passed = still-passed (Runs w) refl };
-        came_out = out-started places line (set line (n - 1) (with_stage (Runs w) e)) finished n e (Runs w) kept.came_out change refl only.lives;
+        ended_once = out-started places line (set line (n - 1) (with_stage (Runs w) e)) finished n e (Runs w) kept.ended_once change refl only.lives;
         room = record {
           created_are = kept.room.created_are;
           queued_are = omega (arith, fewer_is, kept.room.queued_are, fewer-wait (Runs w) job refl waits_for);
@@ -379,7 +379,7 @@ module _ (places : List (HeldValue Placed)) (issued : List ℕ) (line : List Num
           only = only-waits e.stage job waits_for
 
     -- it is cancelled
-    pub kept-cancelled : (outcomes : List CameOut) (o : CameOut) (fewer : ℕ) (job : JobSpec) → lines ≡ set line (n - 1) (with_stage Ended e)
+    pub kept-cancelled : (outcomes : List EndedWorkSeen) (o : EndedWorkSeen) (fewer : ℕ) (job : JobSpec) → lines ≡ set line (n - 1) (with_stage Ended e)
         → outcomes ≡ finished ++ o ∷ [] → waiting_job e.stage ≡ Some job
         → o.number ≡ n → o.unspent ≡ Some job → fewer ≡ queued - 1 → IsKeptPool places issued lines outcomes first created fewer running closing spare finished_places
     kept-cancelled outcomes o fewer job is out_is waits_for its unspent fewer_is = rw (is, out_is) (record {
@@ -390,7 +390,7 @@ module _ (places : List (HeldValue Placed)) (issued : List ℕ) (line : List Num
         within = omega (arith, change.long, kept.numbered_work.within);
         passed = still-passed Ended refl;
       };
-      came_out = out-ended places line (set line (n - 1) (with_stage Ended e)) finished n e Ended kept.came_out change o refl only.lives its told;
+      ended_once = out-ended places line (set line (n - 1) (with_stage Ended e)) finished n e Ended kept.ended_once change o refl only.lives its told;
       room = record {
         created_are = kept.room.created_are;
         queued_are = omega (arith, fewer_is, kept.room.queued_are, fewer-wait Ended job refl waits_for);
@@ -414,7 +414,7 @@ module _ (places : List (HeldValue Placed)) (issued : List ℕ) (line : List Num
         told = keeps-job places line n e kept.linked there only.unfinished (kept.linked.placed n e there only.unfinished) o its (unspent ∙ sym waits_for)
 
     -- it finishes
-    pub kept-finished : (outcomes : List CameOut) (o : CameOut) (w fewer : ℕ) → lines ≡ set line (n - 1) (with_stage Ended e)
+    pub kept-finished : (outcomes : List EndedWorkSeen) (o : EndedWorkSeen) (w fewer : ℕ) → lines ≡ set line (n - 1) (with_stage Ended e)
         → outcomes ≡ finished ++ o ∷ [] → runner e.stage ≡ Some w
         → o.number ≡ n → o.unspent ≡ None → fewer ≡ running - 1 → IsKeptPool places issued lines outcomes first created queued fewer closing spare finished_places
     kept-finished outcomes o w fewer is out_is runs its unspent fewer_is = rw (is, out_is) (record {
@@ -425,7 +425,8 @@ module _ (places : List (HeldValue Placed)) (issued : List ℕ) (line : List Num
         within = omega (arith, change.long, kept.numbered_work.within);
         passed = still-passed Ended refl;
       };
-      came_out = out-ended places line (set line (n - 1) (with_stage Ended e)) finished n e Ended kept.came_out change o refl only.lives its (keeps-none places o unspent);
+      ended_once = out-ended places line (set line (n - 1) (with_stage Ended e)) finished n e Ended kept.ended_once change o refl only.lives its
+          (keeps-none places o unspent);
       room = record {
         created_are = kept.room.created_are;
         queued_are = kept.room.queued_are ∙ ap length (sym (waiting-still Ended refl only.started));
@@ -454,7 +455,7 @@ module _ (places : List (HeldValue Placed)) (issued : List ℕ) (line : List Num
             ∙ length-finished line (set line (n - 1) (with_stage Ended e)) n w kept.numbered_work.apart runs_here (fewer-run Ended refl)
 
 -- its completion begins
-pub kept-completed : (places : List (HeldValue Placed)) (issued : List ℕ) (line lines : List NumberedWork) (finished outcomes : List CameOut) (o : CameOut) (first created queued running : ℕ)
+pub kept-completed : (places : List (HeldValue Placed)) (issued : List ℕ) (line lines : List NumberedWork) (finished outcomes : List EndedWorkSeen) (o : EndedWorkSeen) (first created queued running : ℕ)
     (closing : Bool) (spare finished_places more : ℕ) (e : NumberedWork)
     → IsKeptPool places issued line finished first created queued running closing spare finished_places → finished ≡ o ∷ outcomes
     → queue_work_at line o.number ≡ Some e
@@ -470,7 +471,7 @@ kept-completed places issued line lines finished outcomes o first created queued
     within = omega (arith, change.long, kept.numbered_work.within);
     passed = still-passed places issued line finished first created queued running closing spare finished_places kept lines o.number e there Done refl;
   };
-  came_out = out-completed places line (set line (o.number - 1) (with_stage Done e)) o outcomes e Done out change refl;
+  ended_once = out-completed places line (set line (o.number - 1) (with_stage Done e)) o outcomes e Done out change refl;
   room = record {
     created_are = kept.room.created_are;
     queued_are = kept.room.queued_are ∙ ap length (sym waiting_same);
@@ -487,8 +488,8 @@ kept-completed places issued line lines finished outcomes o first created queued
     change : Restaged line (set line (o.number - 1) (with_stage Done e)) o.number e Done
     change = restaged line o.number e Done there
 
-    out : CameOutOnce places line (o ∷ outcomes)
-    out = rw (← out_is) kept.came_out
+    out : EndedOnce places line (o ∷ outcomes)
+    out = rw (← out_is) kept.ended_once
 
     only : OnlyEnded e.stage
     only = only-ended e.stage
@@ -498,7 +499,7 @@ kept-completed places issued line lines finished outcomes o first created queued
     waiting_same = waiting-still places issued line finished first created queued running closing spare finished_places kept lines o.number e there Done refl only.started
 
 -- where none waits, any work may start or none
-pub kept-closed : (places : List (HeldValue Placed)) (issued : List ℕ) (line : List NumberedWork) (finished : List CameOut) (first created queued running : ℕ) (closing now : Bool)
+pub kept-closed : (places : List (HeldValue Placed)) (issued : List ℕ) (line : List NumberedWork) (finished : List EndedWorkSeen) (first created queued running : ℕ) (closing now : Bool)
     (spare finished_places : ℕ)
     → IsKeptPool places issued line finished first created queued running closing spare finished_places → waiting_works line ≡ []
     → IsKeptPool places issued line finished first created queued running now spare finished_places
@@ -506,13 +507,13 @@ kept-closed places issued line finished first created queued running closing now
   known = kept.known;
   linked = kept.linked;
   numbered_work = kept.numbered_work;
-  came_out = kept.came_out;
+  ended_once = kept.ended_once;
   room = kept.room;
   shut = λ _. none;
 }
 
 -- before the first work is created
-pub kept-new : (places : List (HeldValue Placed)) (issued : List ℕ) (line : List NumberedWork) (finished : List CameOut) (spare finished_places : ℕ)
+pub kept-new : (places : List (HeldValue Placed)) (issued : List ℕ) (line : List NumberedWork) (finished : List EndedWorkSeen) (spare finished_places : ℕ)
     → places ≡ [] → issued ≡ [] → line ≡ []
     → finished ≡ [] → IsKeptPool places issued line finished 0 0 0 0 false spare finished_places
 kept-new places issued line finished spare finished_places no_places no_issued no_line no_finished = rw (no_places, no_issued, no_line, no_finished) (record {
@@ -527,7 +528,7 @@ kept-new places issued line finished spare finished_places no_places no_issued n
     within = omega arith;
     passed = λ n before. nothing n;
   };
-  came_out = record {
+  ended_once = record {
     once = λ n. sym (ap (λ b. cond b 1 0) (unended n));
     told = All-nil (KeepsJob []);
   };

@@ -7,8 +7,8 @@ use Rattle.std.proofs.lemmas.List.Sums.{sum_by-cons, sum_by-append, get_or-le-su
 use Rattle.std.proofs.lemmas.List.Elements.{All-append, All-cons, All-nil, All-head, All-tail}
 use Rattle.napi_types.proofs.plain.Found.{same-self, same-tells, apart-above}
 use Rattle.async_work.specs.WorkPlaces.{Placed, place_at, with_place_number}
-use Rattle.async_work.specs.Queue.{QueueStage, StillQueued, Runs, Ended, Done, NumberedWork, CameOut, waiting_job, has_ended, is_done_in_queue, with_stage, queue_work_at, queue_stage_at, queue_id_at, ended_at}
-use Rattle.async_work.specs.KeptPool.{StandsInQueue, KeepsJob, IsNumberOf, AreLinked, CameOutOnce}
+use Rattle.async_work.specs.Queue.{QueueStage, StillQueued, Runs, Ended, Done, NumberedWork, EndedWorkSeen, waiting_job, has_ended, is_done_in_queue, with_stage, queue_work_at, queue_stage_at, queue_id_at, ended_at}
+use Rattle.async_work.specs.KeptPool.{StandsInQueue, KeepsJob, IsNumberOf, AreLinked, EndedOnce}
 use Rattle.async_work.proofs.Ids.{Replaced}
 use Rattle.async_work.proofs.Queueing.{Restaged, stage-restaged, id-restaged, id-other, entry-push, stage-push, stage-past, stage-in_line, id-in_line}
 
@@ -216,33 +216,34 @@ ended-unfinished Ended is = refl
 ended-unfinished Done is = let no : ⊥ = cc in absurd no
 
 -- what is in the list has ended
-among-ended : (places : List (HeldValue Placed)) (line : List NumberedWork) (finished : List CameOut) (k : ℕ) (d : CameOut) → CameOutOnce places line finished
+among-ended : (places : List (HeldValue Placed)) (line : List NumberedWork) (finished : List EndedWorkSeen) (k : ℕ) (d : EndedWorkSeen)
+    → EndedOnce places line finished
     → k < length finished → ended_at line (get_or finished k d).number ≡ true
 among-ended places line finished k d out inside =
-    let o : CameOut = get_or finished k d in
-    let least = get_or-le-sum_by (λ (x : CameOut). cond (x.number == o.number) 1 0) finished k d inside in
+    let o : EndedWorkSeen = get_or finished k d in
+    let least = get_or-le-sum_by (λ (x : EndedWorkSeen). cond (x.number == o.number) 1 0) finished k d inside in
     by (ended_at line o.number) (o.number == o.number) (same-self o.number) (out.once o.number) least
   where
-    by : (b c : Bool) → c ≡ true → count_by (λ (x : CameOut). x.number == (get_or finished k d).number) finished ≡ cond b 1 0
-        → cond c 1 0 ≤ count_by (λ (x : CameOut). x.number == (get_or finished k d).number) finished → b ≡ true
+    by : (b c : Bool) → c ≡ true → count_by (λ (x : EndedWorkSeen). x.number == (get_or finished k d).number) finished ≡ cond b 1 0
+        → cond c 1 0 ≤ count_by (λ (x : EndedWorkSeen). x.number == (get_or finished k d).number) finished → b ≡ true
     by true c same count least = refl
     by false true same count least = absurd (omega (arith, count, least))
     by false false same count least = let no : ⊥ = cc in absurd no
 
 -- a job that is kept stays so where each work that has its number was there before, and computed the same
-told-all : (places others : List (HeldValue Placed)) (line : List NumberedWork) (finished : List CameOut) → CameOutOnce places line finished
+told-all : (places others : List (HeldValue Placed)) (line : List NumberedWork) (finished : List EndedWorkSeen) → EndedOnce places line finished
     → ((n : ℕ) → ended_at line n ≡ true → (id : ℕ) (q : Placed) → place_at others id ≡ Some q → q.number ≡ Some n
     → (r : Placed) × (place_at places id ≡ Some r) × (r.number ≡ Some n) × (r.spec ≡ q.spec))
     → All (KeepsJob others) finished
 told-all places others line finished out before k d inside =
-    let o : CameOut = get_or finished k d in
+    let o : EndedWorkSeen = get_or finished k d in
     if-more (λ s. (id : ℕ) (p : Placed) → place_at places id ≡ Some p → p.number ≡ Some o.number → p.spec ≡ s)
     (λ s. (id : ℕ) (p : Placed) → place_at others id ≡ Some p → p.number ≡ Some o.number → p.spec ≡ s) o.unspent
     (λ s told id q at number. let r = before o.number (among-ended places line finished k d out inside) id q at number in sym r.3 ∙ told id r.0 r.1 r.2)
     (out.told k d inside)
 
-pub out-created : (places others : List (HeldValue Placed)) (line : List NumberedWork) (finished : List CameOut) (id : ℕ) (p : Placed) → p.number ≡ None
-    → Replaced places others id (Some p) → CameOutOnce places line finished → CameOutOnce others line finished
+pub out-created : (places others : List (HeldValue Placed)) (line : List NumberedWork) (finished : List EndedWorkSeen) (id : ℕ) (p : Placed) → p.number ≡ None
+    → Replaced places others id (Some p) → EndedOnce places line finished → EndedOnce others line finished
 out-created places others line finished id p none change out = record {
   once = out.once;
   told = told-all places others line finished out (λ n ended m q at number. by n m q (id == m) (sym (change.at m) ∙ at) number);
@@ -255,8 +256,8 @@ out-created places others line finished id p none change out = record {
         let no : ⊥ = cc in absurd no
     by n m q false told number = (q, told, number, refl)
 
-pub out-deleted : (places others : List (HeldValue Placed)) (line : List NumberedWork) (finished : List CameOut) (id : ℕ)
-    → CameOutOnce places line finished → Replaced places others id None → CameOutOnce others line finished
+pub out-deleted : (places others : List (HeldValue Placed)) (line : List NumberedWork) (finished : List EndedWorkSeen) (id : ℕ)
+    → EndedOnce places line finished → Replaced places others id None → EndedOnce others line finished
 out-deleted places others line finished id out change = record {
   once = out.once;
   told = told-all places others line finished out (λ n ended m q at number. by n m q (id == m) (sym (change.at m) ∙ at) number);
@@ -267,9 +268,9 @@ out-deleted places others line finished id out change = record {
     by n m q true told number = let no : ⊥ = cc in absurd no
     by n m q false told number = (q, told, number, refl)
 
-pub out-queued : (places others : List (HeldValue Placed)) (line : List NumberedWork) (finished : List CameOut) (id n : ℕ) (p : Placed) (e : NumberedWork)
-    → CameOutOnce places line finished → n ≡ length line + 1
-    → Replaced places others id (Some (with_place_number n p)) → has_ended e.stage ≡ false → CameOutOnce others (line ++ e ∷ []) finished
+pub out-queued : (places others : List (HeldValue Placed)) (line : List NumberedWork) (finished : List EndedWorkSeen) (id n : ℕ) (p : Placed) (e : NumberedWork)
+    → EndedOnce places line finished → n ≡ length line + 1
+    → Replaced places others id (Some (with_place_number n p)) → has_ended e.stage ≡ false → EndedOnce others (line ++ e ∷ []) finished
 out-queued places others line finished id n p e out new change waits_still = record {
   once = λ m. out.once m ∙ ap (λ b. cond b 1 0) (sym (same m (length line + 1 == m) refl));
   told = told-all places others line finished out (λ k ended m q at number. by k m q ended (id == m) (sym (change.at m) ∙ at) number);
@@ -291,10 +292,10 @@ out-queued places others line finished id n p e out new change waits_still = rec
         let no : ⊥ = cc in absurd no
     by k m q ended false told number = (q, told, number, refl)
 
-module _ (places : List (HeldValue Placed)) (line others : List NumberedWork) (finished : List CameOut) (n : ℕ) (e : NumberedWork) (s : QueueStage)
-    (out : CameOutOnce places line finished) (change : Restaged line others n e s) where
+module _ (places : List (HeldValue Placed)) (line others : List NumberedWork) (finished : List EndedWorkSeen) (n : ℕ) (e : NumberedWork) (s : QueueStage)
+    (out : EndedOnce places line finished) (change : Restaged line others n e s) where
   -- it starts
-  pub out-started : has_ended s ≡ false → has_ended e.stage ≡ false → CameOutOnce places others finished
+  pub out-started : has_ended s ≡ false → has_ended e.stage ≡ false → EndedOnce places others finished
   out-started not_after not_before = record {
     once = λ m. out.once m ∙ ap (λ b. cond b 1 0) (sym (stage-restaged line others n e s change has_ended m ∙ by m (n == m) refl));
     told = out.told;
@@ -305,78 +306,84 @@ module _ (places : List (HeldValue Placed)) (line others : List NumberedWork) (f
       by m false same = refl
 
   -- it ends
-  pub out-ended : (o : CameOut) → has_ended s ≡ true → has_ended e.stage ≡ false → o.number ≡ n → KeepsJob places o → CameOutOnce places others (finished ++ o ∷ [])
+  pub out-ended : (o : EndedWorkSeen) → has_ended s ≡ true → has_ended e.stage ≡ false → o.number ≡ n → KeepsJob places o → EndedOnce places others
+      (finished ++ o ∷ [])
   out-ended o after not_before its told = record {
-    once = λ m. sum_by-append (λ (x : CameOut). cond (x.number == m) 1 0) finished (o ∷ []) ∙ by m (n == m) refl (out.once m);
+    once = λ m. sum_by-append (λ (x : EndedWorkSeen). cond (x.number == m) 1 0) finished (o ∷ []) ∙ by m (n == m) refl (out.once m);
     told = All-append (KeepsJob places) finished (o ∷ []) out.told (All-cons (KeepsJob places) o [] told (All-nil (KeepsJob places)));
   }
     where
-      count-one : (m : ℕ) (b : Bool) → (n == m) ≡ b → count_by (λ (x : CameOut). x.number == m) (o ∷ []) ≡ cond b 1 0
-      count-one m b same = sum_by-cons (λ (x : CameOut). cond (x.number == m) 1 0) o [] ∙ ap (λ k. cond (k == m) 1 0 + 0) its
+      count-one : (m : ℕ) (b : Bool) → (n == m) ≡ b → count_by (λ (x : EndedWorkSeen). x.number == m) (o ∷ []) ≡ cond b 1 0
+      count-one m b same = sum_by-cons (λ (x : EndedWorkSeen). cond (x.number == m) 1 0) o [] ∙ ap (λ k. cond (k == m) 1 0 + 0) its
           ∙ ap (λ c. cond c 1 0 + 0) same ∙ plain (cond b 1 0)
         where
           plain : (k : ℕ) → k + 0 ≡ k
           plain k = omega arith
 
-      by : (m : ℕ) (b : Bool) → (n == m) ≡ b → count_by (λ (x : CameOut). x.number == m) finished ≡ cond (ended_at line m) 1 0
-          → count_by (λ (x : CameOut). x.number == m) finished + count_by (λ (x : CameOut). x.number == m) (o ∷ []) ≡ cond (ended_at others m) 1 0
+      by : (m : ℕ) (b : Bool) → (n == m) ≡ b → count_by (λ (x : EndedWorkSeen). x.number == m) finished ≡ cond (ended_at line m) 1 0
+          → count_by (λ (x : EndedWorkSeen). x.number == m) finished + count_by (λ (x : EndedWorkSeen). x.number == m) (o ∷ []) ≡ cond (ended_at others m) 1 0
       by m true same count =
           let was : ended_at line m ≡ false = ap (λ k. ended_at line k) (sym (same-tells n m same)) ∙ ap has_ended (stage-of line n e change.there)
           ∙ not_before in
-          let none : count_by (λ (x : CameOut). x.number == m) finished ≡ 0 = count ∙ ap (λ b. cond b 1 0) was in
+          let none : count_by (λ (x : EndedWorkSeen). x.number == m) finished ≡ 0 = count ∙ ap (λ b. cond b 1 0) was in
           let is : ended_at others m ≡ true = stage-restaged line others n e s change has_ended m ∙ ap (λ b. cond b (has_ended s) (ended_at line m)) same
           ∙ after in
-          ap (λ b. count_by (λ (x : CameOut). x.number == m) finished + b) (count-one m true same) ∙ ap (λ k. k + 1) none ∙ ap (λ b. cond b 1 0) (sym is)
+          ap (λ b. count_by (λ (x : EndedWorkSeen). x.number == m) finished + b) (count-one m true same) ∙ ap (λ k. k + 1) none ∙ ap (λ b. cond b 1 0) (sym is)
       by m false same count =
           let is : ended_at others m ≡ ended_at line m = stage-restaged line others n e s change has_ended m
           ∙ ap (λ b. cond b (has_ended s) (ended_at line m)) same in
-          ap (λ b. count_by (λ (x : CameOut). x.number == m) finished + b) (count-one m false same)
-          ∙ plain (count_by (λ (x : CameOut). x.number == m) finished) ∙ count ∙ ap (λ b. cond b 1 0) (sym is)
+          ap (λ b. count_by (λ (x : EndedWorkSeen). x.number == m) finished + b) (count-one m false same)
+          ∙ plain (count_by (λ (x : EndedWorkSeen). x.number == m) finished) ∙ count ∙ ap (λ b. cond b 1 0) (sym is)
         where
           plain : (k : ℕ) → k + 0 ≡ k
           plain k = omega arith
 
 -- its completion begins
-pub out-completed : (places : List (HeldValue Placed)) (line others : List NumberedWork) (o : CameOut) (finished : List CameOut) (e : NumberedWork) (s : QueueStage)
-    → CameOutOnce places line (o ∷ finished)
-    → Restaged line others o.number e s → has_ended s ≡ false → CameOutOnce places others finished
+pub out-completed : (places : List (HeldValue Placed)) (line others : List NumberedWork) (o : EndedWorkSeen) (finished : List EndedWorkSeen) (e : NumberedWork) (s : QueueStage)
+    → EndedOnce places line (o ∷ finished)
+    → Restaged line others o.number e s → has_ended s ≡ false → EndedOnce places others finished
 out-completed places line others o finished e s out change after = record {
-  once = λ m. by m (o.number == m) refl (sym (sum_by-cons (λ (x : CameOut). cond (x.number == m) 1 0) o finished) ∙ out.once m);
+  once = λ m. by m (o.number == m) refl (sym (sum_by-cons (λ (x : EndedWorkSeen). cond (x.number == m) 1 0) o finished) ∙ out.once m);
   told = All-tail (KeepsJob places) o finished out.told;
 }
   where
-    by : (m : ℕ) (b : Bool) → (o.number == m) ≡ b → cond (o.number == m) 1 0 + count_by (λ (x : CameOut). x.number == m) finished ≡ cond (ended_at line m) 1 0
-        → count_by (λ (x : CameOut). x.number == m) finished ≡ cond (ended_at others m) 1 0
+    by : (m : ℕ) (b : Bool) → (o.number == m) ≡ b → cond (o.number == m) 1 0 + count_by (λ (x : EndedWorkSeen). x.number == m) finished ≡ cond
+        (ended_at line m) 1 0
+        → count_by (λ (x : EndedWorkSeen). x.number == m) finished ≡ cond (ended_at others m) 1 0
     by m true same count =
         let is : ended_at others m ≡ false = stage-restaged line others o.number e s change has_ended m
         ∙ ap (λ b. cond b (has_ended s) (ended_at line m)) same ∙ after in
-        no_more (ended_at line m) (ap (λ b. cond b 1 0 + count_by (λ (x : CameOut). x.number == m) finished) (sym same) ∙ count) ∙ ap (λ b. cond b 1 0) (sym is)
+        no_more (ended_at line m) (ap (λ b. cond b 1 0 + count_by (λ (x : EndedWorkSeen). x.number == m) finished) (sym same) ∙ count) ∙ ap (λ b. cond b 1 0)
+        (sym is)
       where
-        no_more : (c : Bool) → 1 + count_by (λ (x : CameOut). x.number == m) finished ≡ cond c 1 0 → count_by (λ (x : CameOut). x.number == m) finished ≡ 0
+        no_more : (c : Bool) → 1 + count_by (λ (x : EndedWorkSeen). x.number == m) finished ≡ cond c 1 0 → count_by
+            (λ (x : EndedWorkSeen). x.number == m) finished ≡ 0
         no_more true told = omega arith
         no_more false told = absurd (omega (arith, told))
     by m false same count =
         let is : ended_at others m ≡ ended_at line m = stage-restaged line others o.number e s change has_ended m
         ∙ ap (λ b. cond b (has_ended s) (ended_at line m)) same in
-        plain (count_by (λ (x : CameOut). x.number == m) finished) ∙ ap (λ b. cond b 1 0 + count_by (λ (x : CameOut). x.number == m) finished) (sym same)
+        plain (count_by (λ (x : EndedWorkSeen). x.number == m) finished) ∙ ap (λ b. cond b 1 0 + count_by (λ (x : EndedWorkSeen). x.number == m) finished)
+        (sym same)
         ∙ count ∙ ap (λ b. cond b 1 0) (sym is)
       where
         plain : (k : ℕ) → k ≡ 0 + k
         plain k = omega arith
 
 -- the first of them has the job that it should have
-pub first-told : (places : List (HeldValue Placed)) (line : List NumberedWork) (o : CameOut) (finished : List CameOut) (e : NumberedWork) (stands : StandsInQueue places o.number e)
-    → CameOutOnce places line (o ∷ finished) → IfSome o.unspent (λ s. stands.place.spec ≡ s)
+pub first-told : (places : List (HeldValue Placed)) (line : List NumberedWork) (o : EndedWorkSeen) (finished : List EndedWorkSeen) (e : NumberedWork) (stands : StandsInQueue places o.number e)
+    → EndedOnce places line (o ∷ finished) → IfSome o.unspent (λ s. stands.place.spec ≡ s)
 first-told places line o finished e stands out =
     if-more (λ s. (id : ℕ) (p : Placed) → place_at places id ≡ Some p → p.number ≡ Some o.number → p.spec ≡ s) (λ s. stands.place.spec ≡ s) o.unspent
     (λ s told. told e.id stands.place stands.there stands.numbered) (All-head (KeepsJob places) o finished out.told)
 
-pub keeps-none : (places : List (HeldValue Placed)) (o : CameOut) → o.unspent ≡ None → KeepsJob places o
+pub keeps-none : (places : List (HeldValue Placed)) (o : EndedWorkSeen) → o.unspent ≡ None → KeepsJob places o
 keeps-none places o is = if-none (λ s. (id : ℕ) (p : Placed) → place_at places id ≡ Some p → p.number ≡ Some o.number → p.spec ≡ s) o.unspent is
 
 -- the job of a work that stands in the queue is the one that it should be
 pub keeps-job : (places : List (HeldValue Placed)) (line : List NumberedWork) (n : ℕ) (e : NumberedWork) → AreLinked places line → queue_work_at line n ≡ Some e
-    → is_done_in_queue e.stage ≡ false → (stands : StandsInQueue places n e) (o : CameOut) → o.number ≡ n → o.unspent ≡ waiting_job e.stage → KeepsJob places o
+    → is_done_in_queue e.stage ≡ false → (stands : StandsInQueue places n e) (o : EndedWorkSeen) → o.number ≡ n → o.unspent ≡ waiting_job e.stage
+    → KeepsJob places o
 keeps-job places line n e linked at unfinished stands o number is =
     subst (λ u. IfSome u (λ s. (id : ℕ) (p : Placed) → place_at places id ≡ Some p → p.number ≡ Some o.number → p.spec ≡ s)) (sym is)
     (if-more (λ s. s ≡ stands.place.spec) (λ s. (id : ℕ) (p : Placed) → place_at places id ≡ Some p → p.number ≡ Some o.number → p.spec ≡ s) (waiting_job e.stage)
@@ -389,7 +396,8 @@ keeps-job places line n e linked at unfinished stands o number is =
         let one : id ≡ e.id = same-some id e.id (sym its_id ∙ ap (option_map (λ (x : NumberedWork). x.id)) at) in
         same-some p stands.place (sym there ∙ ap (place_at places) one ∙ stands.there)
 
--- what has come out has ended
-pub first-ended : (places : List (HeldValue Placed)) (line : List NumberedWork) (o : CameOut) (finished : List CameOut) → CameOutOnce places line (o ∷ finished)
+-- what stands in the list of ended works has ended
+pub first-ended : (places : List (HeldValue Placed)) (line : List NumberedWork) (o : EndedWorkSeen) (finished : List EndedWorkSeen)
+    → EndedOnce places line (o ∷ finished)
     → ended_at line o.number ≡ true
 first-ended places line o finished out = among-ended places line (o ∷ finished) 0 o out (omega arith)

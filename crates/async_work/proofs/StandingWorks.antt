@@ -11,7 +11,7 @@ use Rattle.napi_types.specs.parts.Pool.{WorkPool, work_at, work_numbered, number
 use Rattle.napi_types.specs.parts.Works.{Work, WorkState, Created, Queued, Running, Finished, Completed, Outcome, is_created, is_deletable}
 use Rattle.napi_types.proofs.plain.Found.{IsRising}
 use Rattle.async_work.specs.WorkPlaces.{Placed, place_at, work_of}
-use Rattle.async_work.specs.Queue.{QueueStage, StillQueued, Runs, Ended, Done, NumberedWork, CameOut, outcome_of, outcome_status, waiting_job, runner, has_ended, is_done_in_queue, stage_state, queue_work_at, queue_stage_at, queue_id_at, queued_at, ended_at}
+use Rattle.async_work.specs.Queue.{QueueStage, StillQueued, Runs, Ended, Done, NumberedWork, EndedWorkSeen, outcome_of, outcome_status, waiting_job, runner, has_ended, is_done_in_queue, stage_state, queue_work_at, queue_stage_at, queue_id_at, queued_at, ended_at}
 use Rattle.async_work.specs.KeptPool.{pool_of, StandsInQueue, IsNumberOf, IsKeptPool}
 use Rattle.async_work.specs.declared.pool.WorkProgress.{WorkProgress}
 use Rattle.async_work.specs.declared.pool.WorkProgress.TheVariants as state
@@ -36,11 +36,12 @@ refusal-of p test id o is = ap (refused test) is ∙ by (work_at p id)
     by None = refl
     by (Some w) = refl
 
-has-outcome : (finished : List CameOut) (n : ℕ) → has (λ (o : Outcome). o.work) n (map outcome_of finished) ≡ list_any (λ (o : CameOut). o.number == n) finished
+has-outcome : (finished : List EndedWorkSeen) (n : ℕ)
+    → has (λ (o : Outcome). o.work) n (map outcome_of finished) ≡ list_any (λ (o : EndedWorkSeen). o.number == n) finished
 has-outcome [] n = refl
 has-outcome (o ∷ os) n = ap (λ b. (o.number == n) || b) (has-outcome os n)
 
-module _ (places : List (HeldValue Placed)) (issued : List ℕ) (line : List NumberedWork) (finished : List CameOut) (first created queued running : ℕ)
+module _ (places : List (HeldValue Placed)) (issued : List ℕ) (line : List NumberedWork) (finished : List EndedWorkSeen) (first created queued running : ℕ)
     (closing : Bool)
     (spare finished_places : ℕ)
     (kept : IsKeptPool places issued line finished first created queued running closing spare finished_places) where
@@ -50,7 +51,7 @@ module _ (places : List (HeldValue Placed)) (issued : List ℕ) (line : List Num
   pub stands-at : (n : ℕ) → standing_at pool n ≡ numbered_state line n
   stands-at n =
       by (queue_stage_at line n) _ _ _ (has-waiting line n) (has-work line kept.numbered_work.apart n) (has-outcome finished n
-      ∙ any-counted (λ (o : CameOut). o.number == n) finished (ended_at line n) (kept.came_out.once n))
+      ∙ any-counted (λ (o : EndedWorkSeen). o.number == n) finished (ended_at line n) (kept.ended_once.once n))
     where
       by : (s : QueueStage) (a b c : Bool) → a ≡ is_some (waiting_job s) → b ≡ is_some (runner s) → c ≡ has_ended s
           → cond a Queued (cond b Running (cond c Finished Completed)) ≡ stage_state s

@@ -5,9 +5,9 @@ use Rattle.generation_slab.specs.HeldPlaces.{HeldValue}
 use Rattle.napi_types.specs.plain.Lists.{has_number}
 use Rattle.napi_types.specs.parts.Pool.{WorkPool}
 use Rattle.async_work.specs.WorkPlaces.{Placed, place_at, is_unqueued, works_of}
-use Rattle.async_work.specs.Queue.{NumberedWork, CameOut, outcome_of, is_done_in_queue, waiting_job, queue_work_at, queue_stage_at, queue_id_at, queued_at, runner_at, ended_at, waiting_works, executions}
+use Rattle.async_work.specs.Queue.{NumberedWork, EndedWorkSeen, outcome_of, is_done_in_queue, waiting_job, queue_work_at, queue_stage_at, queue_id_at, queued_at, runner_at, ended_at, waiting_works, executions}
 
-abbrev pub pool_of : List (HeldValue Placed) → List ℕ → List NumberedWork → List CameOut → Bool → WorkPool
+abbrev pub pool_of : List (HeldValue Placed) → List ℕ → List NumberedWork → List EndedWorkSeen → Bool → WorkPool
 pool_of places issued line finished closing = record {
   works = works_of places;
   issued = issued;
@@ -26,7 +26,7 @@ pub record StandsInQueue (places : List (HeldValue Placed)) (n : ℕ) (e : Numbe
   pub job : IfSome (waiting_job e.stage) (λ s. s ≡ place.spec)
 
 -- a job that did not run computes what its work was to compute
-abbrev pub KeepsJob : List (HeldValue Placed) → CameOut → Type 0
+abbrev pub KeepsJob : List (HeldValue Placed) → EndedWorkSeen → Type 0
 KeepsJob places o = IfSome o.unspent (λ s. (id : ℕ) (p : Placed) → place_at places id ≡ Some p → p.number ≡ Some o.number → p.spec ≡ s)
 
 -- a number is that of a work in the queue, which has this id as long as its completion has not begun
@@ -49,13 +49,13 @@ pub record IsQueue (line : List NumberedWork) (first : ℕ) : Type 0 where
   pub within : first ≤ length line
   pub passed : (n : ℕ) → n ≤ first → queued_at line n ≡ false
 
--- each work that has ended came out once, with the job that it should have
-pub record CameOutOnce (places : List (HeldValue Placed)) (line : List NumberedWork) (finished : List CameOut) : Type 0 where
+-- each work that has ended stands once in the list, with the job that it should have
+pub record EndedOnce (places : List (HeldValue Placed)) (line : List NumberedWork) (finished : List EndedWorkSeen) : Type 0 where
   pub once : (n : ℕ) → count_by (λ o. o.number == n) finished ≡ cond (ended_at line n) 1 0
   pub told : All (KeepsJob places) finished
 
--- the counts, and there is room in the queue for each work that is not in it, and among those that came out for each that has not come out
-pub record PoolHasRoom (places : List (HeldValue Placed)) (issued : List ℕ) (line : List NumberedWork) (finished : List CameOut)
+-- the counts, and there is room in the queue for each work that is not in it, and among those that have ended for each that has not
+pub record PoolHasRoom (places : List (HeldValue Placed)) (issued : List ℕ) (line : List NumberedWork) (finished : List EndedWorkSeen)
     (created queued running spare finished_places : ℕ) : Type 0 where
   pub created_are : created ≡ count_by is_unqueued places
   pub queued_are : queued ≡ length (waiting_works line)
@@ -65,12 +65,12 @@ pub record PoolHasRoom (places : List (HeldValue Placed)) (issued : List ℕ) (l
   pub queue_room : created ≤ spare
   pub finished_room : length finished + created + queued + running ≤ finished_places
 
-pub record IsKeptPool (places : List (HeldValue Placed)) (issued : List ℕ) (line : List NumberedWork) (finished : List CameOut)
+pub record IsKeptPool (places : List (HeldValue Placed)) (issued : List ℕ) (line : List NumberedWork) (finished : List EndedWorkSeen)
     (first created queued running : ℕ)
     (closing : Bool) (spare finished_places : ℕ) : Type 0 where
   pub known : HaveIssuedIds places issued
   pub linked : AreLinked places line
   pub numbered_work : IsQueue line first
-  pub came_out : CameOutOnce places line finished
+  pub ended_once : EndedOnce places line finished
   pub room : PoolHasRoom places issued line finished created queued running spare finished_places
   pub shut : closing ≡ true → waiting_works line ≡ []

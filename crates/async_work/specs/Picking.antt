@@ -49,6 +49,6 @@ work_to_start p n = option_map (λ w. record { number = n; spec = w.spec }) (wor
 abbrev pub first_to_start : WorkPool → Option StartedWork
 first_to_start p = option_and_then (work_to_start p) (head p.queued)
 
--- what the job computes that did not run, of a work that came out with this status
+-- what the job computes that did not run, of a work that ended with this status
 abbrev pub unspent_spec : WorkPool → ℕ → Status → Option JobSpec
 unspent_spec p n status = cond (is_cancelled status) (option_map (λ w. w.spec) (work_numbered p n)) None

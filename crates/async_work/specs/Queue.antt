@@ -41,8 +41,8 @@ abbrev pub behind : ℕ → List NumberedWork → List NumberedWork
 behind zero line = line
 behind (suc n) line = numbered_work 0 Done ∷ behind n line
 
--- a work that came out: its number, what its job computes, where that did not run, and its value
-pub record CameOut : Type 0 where
+-- a work that has ended: its number, what its job computes, where that did not run, and its value
+pub record EndedWorkSeen : Type 0 where
   pub number : ℕ
   pub unspent : Option JobSpec
   pub value : ℕ
@@ -69,16 +69,16 @@ module _ {J : Type 0} (spec : J → JobSpec) where
   ending_value (ending.Ran value) = value
   ending_value (ending.Cancelled job) = 0
 
-  abbrev pub outcome_seen : code.EndedWork J → CameOut
+  abbrev pub outcome_seen : code.EndedWork J → EndedWorkSeen
   outcome_seen o = record { number = o.number; unspent = ending_job o.ending; value = ending_value o.ending }
 
-  abbrev pub outcomes_seen : List (code.EndedWork J) → List CameOut
+  abbrev pub outcomes_seen : List (code.EndedWork J) → List EndedWorkSeen
   outcomes_seen outcomes = map outcome_seen outcomes
 
-abbrev pub ran_outcome : ℕ → ℕ → CameOut
+abbrev pub ran_outcome : ℕ → ℕ → EndedWorkSeen
 ran_outcome n value = record { number = n; unspent = None; value = value }
 
-abbrev pub unstarted_outcome : ℕ → Option JobSpec → CameOut
+abbrev pub unstarted_outcome : ℕ → Option JobSpec → EndedWorkSeen
 unstarted_outcome n job = record { number = n; unspent = job; value = 0 }
 
 -- a work whose job did not run was cancelled
@@ -86,7 +86,7 @@ abbrev pub outcome_status : Option JobSpec → Status
 outcome_status None = status.Ok
 outcome_status (Some spec) = status.Cancelled
 
-abbrev pub outcome_of : CameOut → Outcome
+abbrev pub outcome_of : EndedWorkSeen → Outcome
 outcome_of o = record { work = o.number; status = outcome_status o.unspent; value = o.value }
 
 -- STAGES
@@ -138,7 +138,7 @@ queued_at line n = is_some (waiting_job (queue_stage_at line n))
 abbrev pub runner_at : List NumberedWork → ℕ → Option ℕ
 runner_at line n = runner (queue_stage_at line n)
 
--- it came out, and its completion has not begun
+-- it has ended, and its completion has not begun
 abbrev pub ended_at : List NumberedWork → ℕ → Bool
 ended_at line n = has_ended (queue_stage_at line n)
 

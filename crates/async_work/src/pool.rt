@@ -21,7 +21,7 @@ use std::alloc::Global;
 use std::collections::VecDeque;
 use std::marker::Model;
 
-/// A work that came out, as its completion begins: the manual's `complete` callback. It has to be spent, by [`Finished::into_due`].
+/// A work that has ended, as its completion begins: the manual's `complete` callback. It has to be spent, by [`Finished::into_due`].
 pub struct Finished<J> {
     // The memory for the line of its completion in a list of what was seen.
     slip: Slip,
@@ -91,7 +91,7 @@ pub struct Pool<J: Job> {
     line: WorkQueue<J>,
     // So many of the first works of the queue are no longer queued.
     first: u64,
-    // Works that came out and whose completion has not begun, in the order of finishing. There is room for each work that has not come out.
+    // Works that have ended and whose completion has not begun, in the order of finishing. There is room for each work that has not ended.
     finished: VecDeque<EndedWork<J>>,
     // How many works were created and not queued.
     created: u64,
@@ -241,7 +241,7 @@ impl<J: Job> Pool<J> {
         Ok(number)
     }
 
-    /// Cancels a work that waits: the manual's `napi_cancel_async_work`. It comes out as cancelled, behind all that came out before, and
+    /// Cancels a work that is still queued: the manual's `napi_cancel_async_work`. It ends as cancelled, behind all that ended before, and
     /// its job never runs. Refused with 1 where no work has the id, and with 9 where it is not queued.
     ///
     /// Constant time. It takes no memory, and moves no other work.
@@ -281,7 +281,7 @@ impl<J: Job> Pool<J> {
         Picked::Job(Running::new(number, job))
     }
 
-    /// A worker finishes the work that it executes, which comes out behind all that came out before.
+    /// A worker finishes the work that it executes, which ends behind all that ended before.
     ///
     /// Constant time. It takes no memory.
     pub fn finish(&mut self, worker: u32, ran: Ran)
@@ -295,7 +295,7 @@ impl<J: Job> Pool<J> {
         self.running -= 1;
     }
 
-    /// The completion begins of the work that came out first. `None` exactly where none is finished. Its job is there exactly where it
+    /// The completion begins of the work that ended first. `None` exactly where none is finished. Its job is there exactly where it
     /// was cancelled.
     ///
     /// Constant time over all completions: the queue lets each work go once. It takes no memory.
@@ -335,7 +335,7 @@ impl<J: Job> Pool<J> {
         self.closing
     }
 
-    /// Whether a work came out whose completion has not begun. Constant time.
+    /// Whether a work has ended whose completion has not begun. Constant time.
     pub fn has_finished(&self) -> bool
         ensures { result ≡ is_some (first_completion self.now) }
     {
@@ -356,7 +356,7 @@ impl<J: Job> Pool<J> {
         self.running
     }
 
-    /// How many works came out and have not begun their completion. Constant time.
+    /// How many works have ended and not begun their completion. Constant time.
     pub fn finished(&self) -> u64
         ensures { result ≡ length self.now.finished }
     {
@@ -389,7 +389,7 @@ impl<J: Job> Pool<J> {
         Some(self.first + 1)
     }
 
-    /// A work that waits comes out as cancelled.
+    /// A work that is still queued ends as cancelled.
     fn cancel_queued(&mut self, number: u64)
         requires { has_number number self.old.queued ≡ true }
         ensures { self.new ≡ cancelled_at (Some number) self.old }
@@ -416,7 +416,7 @@ fn progress_of<J: Job>(stage: Option<&WorkStage<J>>, number: u64) -> WorkProgres
     }
 }
 
-/// What begins with the completion of a work that came out so.
+/// What begins with the completion of a work that ended so.
 fn finished_of<J: Job>(place: &WorkPlace<J>, outcome: EndedWork<J>) -> Finished<J>
     ensures told { finished_info result ≡ completion_info (work_of 0 (place_seen J.spec place.now)) (outcome_of (outcome_seen J.spec outcome)) }
     ensures unspent { option_map J.spec result.job ≡ (outcome_seen J.spec outcome).unspent }

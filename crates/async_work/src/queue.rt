@@ -33,7 +33,7 @@ pub(crate) struct Numbered<J> {
     stage: WorkStage<J>,
 }
 
-/// How a work came out.
+/// How a work ended.
 #[derive(Drop)]
 pub(crate) enum Ending<J> {
     /// Its job ran, to this value.
@@ -42,7 +42,7 @@ pub(crate) enum Ending<J> {
     Cancelled(J),
 }
 
-/// A work that came out.
+/// A work that has ended.
 #[derive(Drop)]
 pub(crate) struct EndedWork<J> {
     pub(crate) number: u64,
@@ -150,7 +150,7 @@ impl<J: Job> WorkQueue<J> {
         )
     }
 
-    /// A work that runs came out, with this value.
+    /// A work that runs ends, with this value.
     pub(crate) fn finish(&mut self, number: u64, value: u64) -> EndedWork<J>
         requires { IsSome (runner (queue_stage_at self.old.works number)) }
         ensures outcome { outcome_seen J.spec result ≡ ran_outcome number value }
@@ -231,7 +231,7 @@ fn start<J: Job>(numbered: &mut Numbered<J>, worker: u32) -> J
     }
 }
 
-/// A work that runs came out, with this value.
+/// A work that runs ends, with this value.
 fn finish<J: Job>(numbered: &mut Numbered<J>, number: u64, value: u64) -> EndedWork<J>
     requires { IsSome (runner (stage_seen J.spec numbered.old.stage)) }
     ensures outcome { outcome_seen J.spec result ≡ ran_outcome number value }

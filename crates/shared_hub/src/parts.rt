@@ -96,7 +96,7 @@ impl<J: Job> SharedParts<J> {
         self.pool.finish(worker, ran)
     }
 
-    /// The hub's next move: the completion of the work that came out first begins, or else the function with the lowest number that has
+    /// The hub's next move: the completion of the work that ended first begins, or else the function with the lowest number that has
     /// something to do does it.
     ///
     /// In logarithmic time over all moves. It takes no memory.
@@ -112,7 +112,7 @@ impl<J: Job> SharedParts<J> {
         }
     }
 
-    /// The completion of the work that came out first begins. `Nothing` exactly where none did, and nothing changes.
+    /// The completion of the work that ended first begins. `Nothing` exactly where none did, and nothing changes.
     fn take_completion(&mut self) -> Polled<J>
         ensures told { polled_move result ≡ option_map Delivers (first_completion self.old.pool) }
         ensures left { (h : Hub) → hub_with self.new h ≡ after_move (polled_move result) (hub_with self.old h) }

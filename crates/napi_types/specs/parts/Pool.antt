@@ -22,7 +22,7 @@ pub record WorkPool : Type 0 where
   pub queued : List ℕ
   -- which worker executes which work, as a finite map by the worker
   pub executions : List Execution
-  -- those that came out and whose completion has not begun, in the order of finishing
+  -- those that have ended and whose completion has not begun, in the order of finishing
   pub finished : List Outcome
   -- whether no work starts any more
   pub closing : Bool
@@ -129,7 +129,7 @@ abbrev pub with_finished : ℕ → WorkPool → WorkPool
 with_finished worker p = finished_at worker (executed_by p worker) p
 
 -- COMPLETION, AND THE END
--- what the completion of a work that came out so tells as it begins: its status, its value, and the payload
+-- what the completion of a work that ended so tells as it begins: its status, its value, and the payload
 abbrev pub completion_info : Work → Outcome → DueInfo
 completion_info w o = record {
   duty = duty.Work o.work;

@@ -4,8 +4,8 @@ use Rattle.napi_types.specs.declared.call.JobSpec.{JobSpec}
 use Rattle.napi_types.specs.declared.status.Status.{Status}
 use Rattle.napi_types.specs.declared.status.Status.TheVariants as status
 
--- a work: its id, what it computes, the addon and the entry of its completion and the payload that this is given, and its number in the order of queueing, which
--- names its duty; none until it is queued
+-- a work: its id, what it computes, the addon and the entry of its completion and the payload that this is given, and its number in the order of queueing,
+-- which names its duty; none until it is queued
 pub record Work : Type 0 where
   pub id : ℕ
   pub spec : JobSpec
@@ -41,7 +41,7 @@ pub record Execution : Type 0 where
   pub worker : ℕ
   pub work : ℕ
 
--- how the work of this number came out: its status, and its value
+-- how the work of this number ended: its status, and its value
 pub record Outcome : Type 0 where
   pub work : ℕ
   pub status : Status

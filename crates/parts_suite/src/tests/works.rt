@@ -1,4 +1,4 @@
-//! What shows of a work in every state at every call, and of the order in which works start and come out, where there is memory.
+//! What shows of a work in every state at every call, and of the order in which works start and end, where there is memory.
 ghost use Rattle.std.specs.Prelude.{◌≡◌, ◌+◌, ◌<◌, ◌≤◌, ◌^◌, [], false, true, length, None, Ok, OnErr};
 ghost use Rattle.napi_types.specs.plain.Lists.{with_record};
 ghost use Rattle.napi_types.specs.parts.Jobs.{job_value};
@@ -105,7 +105,7 @@ pub fn run(rt: &impl Abort, works: &mut Works)
 /// it did not run.
 pub type Told = (Duty, u32, u32, u64, Status, u64, Option<u64>);
 
-/// The completion of the work that came out first begins.
+/// The completion of the work that ended first begins.
 pub fn complete(works: &mut Works) -> Option<Told>
     ensures executed { works.new.executions ≡ works.old.executions }
     ensures closing { works.new.closing ≡ works.old.closing }

@@ -17,7 +17,7 @@ use async_work::Job;
 use napi_types::{Actor, Begun, Due, DueInfo, Duty, Entry, HostStep, Out, Reply, What};
 
 impl<J: Job, N: Naming> HubState<J, N> {
-    /// Makes the hub's next move: the completion of the work that came out first, or else that of the function with the lowest number that
+    /// Makes the hub's next move: the completion of the work that ended first, or else that of the function with the lowest number that
     /// has something to do. An item of it is delivered, or is torn while it closes; it begins to close, or finishes; or its finalizer
     /// begins. `Nothing` exactly where there is nothing to do, and nothing changes.
     ///

@@ -1,7 +1,7 @@
 use Rattle.std.proofs.Common.{◌∙◌, Some, ap, refl, arith}
 use Rattle.std.proofs.lemmas.List.{length-map}
 use Rattle.napi_types.specs.parts.Pool.{WorkPool, cancelled_at}
-use Rattle.async_work.specs.Queue.{outcome_seen, waiting_job, CameOut, Ended, unstarted_outcome}
+use Rattle.async_work.specs.Queue.{outcome_seen, waiting_job, EndedWorkSeen, Ended, unstarted_outcome}
 use Rattle.async_work.proofs.KeepingPools.{kept-cancelled, room-to-cancel}
 use Rattle.async_work.proofs.Linking.{stage-of}
 use Rattle.async_work.proofs.Queueing.{waits-of, waits-within, outcomes-push, with_stage_at-there}
@@ -28,8 +28,8 @@ invariant_of-self g c =
     (kept-cancelled _ _ _ _ _ _ _ _ _ _ _ c.self.invariant _ n x.0 x.2 _ (outcome_seen g.J.Job.spec c.cancel-outcome.result) _ x.1
     (c.cancel-outcome.ensures.finished ∙ with_stage_at-there L n Ended x.0 x.2)
     (outcomes-push g.J.Job.spec c.self.inside.finished.items _ c.cancel-outcome.result c.push_back_reserved.ensures.items) x.3
-    (ap (λ (o : CameOut). o.number) c.cancel-outcome.ensures.outcome)
-    (ap (λ (o : CameOut). o.unspent) c.cancel-outcome.ensures.outcome ∙ ap waiting_job (stage-of L n x.0 x.2) ∙ x.3) refl)
+    (ap (λ (o : EndedWorkSeen). o.number) c.cancel-outcome.ensures.outcome)
+    (ap (λ (o : EndedWorkSeen). o.unspent) c.cancel-outcome.ensures.outcome ∙ ap waiting_job (stage-of L n x.0 x.2) ∙ x.3) refl)
 
 pub returns : goal.returns
 returns g c =

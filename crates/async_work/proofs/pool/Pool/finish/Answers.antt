@@ -1,7 +1,7 @@
 use Rattle.std.proofs.Common.{◌≡◌, ◌∙◌, ◌-◌, ◌++◌, [], ◌∷◌, Some, set, refl, sym, ap, arith}
 use Rattle.std.proofs.lemmas.List.{length-map}
 use Rattle.napi_types.specs.parts.Pool.{WorkPool, executed_by, value_of_work, with_finished}
-use Rattle.async_work.specs.Queue.{NumberedWork, CameOut, Ended, outcome_seen, outcomes_seen, queue_work_at, queue_stage_at, runner, runner_at, with_stage, ran_outcome}
+use Rattle.async_work.specs.Queue.{NumberedWork, EndedWorkSeen, Ended, outcome_seen, outcomes_seen, queue_work_at, queue_stage_at, runner, runner_at, with_stage, ran_outcome}
 use Rattle.async_work.proofs.KeepingPools.{only-runs, entry-live, kept-finished, room-to-finish}
 use Rattle.async_work.proofs.Linking.{stage-of}
 use Rattle.async_work.proofs.PoolExecutions.{executed}
@@ -56,7 +56,7 @@ invariant_of-self g c =
     (kept-finished _ _ _ _ _ _ _ _ _ _ _ c.self.invariant _ c.into_parts-number.result.0 _ e.1 _
     (outcome_seen g.J.Job.spec c.finish-outcome.result) c.args.worker _ (lines g (goal.at.invariant_of-self g c).After-finish-outcome b e.1)
     (outcomes g (goal.at.invariant_of-self g c).After-push_back_reserved) (entry-runs g b)
-    (ap (λ (o : CameOut). o.number) c.finish-outcome.ensures.outcome) (ap (λ (o : CameOut). o.unspent) c.finish-outcome.ensures.outcome) refl)
+    (ap (λ (o : EndedWorkSeen). o.number) c.finish-outcome.ensures.outcome) (ap (λ (o : EndedWorkSeen). o.unspent) c.finish-outcome.ensures.outcome) refl)
 
 pub returns : goal.returns
 returns g c =

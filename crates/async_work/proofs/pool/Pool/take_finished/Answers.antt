@@ -4,7 +4,7 @@ use Rattle.napi_types.specs.declared.duties.DueInfo.{DueInfo}
 use Rattle.napi_types.specs.plain.Lists.{head}
 use Rattle.napi_types.specs.parts.Pool.{WorkPool, work_numbered, completion_info, first_completion, with_completed}
 use Rattle.napi_types.specs.parts.Works.{Outcome}
-use Rattle.async_work.specs.KeptPool.{pool_of, StandsInQueue, CameOutOnce}
+use Rattle.async_work.specs.KeptPool.{pool_of, StandsInQueue, EndedOnce}
 use Rattle.async_work.specs.Queue.{NumberedWork, Done, outcome_seen, outcomes_seen, outcome_of, outcome_status, queue_work_at, queue_stage_at, has_ended, is_done_in_queue, with_stage}
 use Rattle.async_work.specs.Picking.{unspent_spec}
 use Rattle.async_work.specs.WorkPlaces.{places_seen, place_at, work_of}
@@ -22,13 +22,13 @@ outcomes : (g : _) (c : In_ok-outcome g)
     → outcomes_seen g.J.Job.spec c.self.inside.finished.items ≡ outcome_seen g.J.Job.spec c.in_ok-outcome.outcome ∷ outcomes_seen g.J.Job.spec c.pop_front.new.self.items
 outcomes g c = ap (outcomes_seen g.J.Job.spec) c.in_ok-outcome.ensures.items
 
-came_out : (g : _) (c : In_ok-outcome g) → CameOutOnce (places_seen g.J.Job.spec c.self.inside.places) c.self.inside.line.works
+ended_once : (g : _) (c : In_ok-outcome g) → EndedOnce (places_seen g.J.Job.spec c.self.inside.places) c.self.inside.line.works
     (outcome_seen g.J.Job.spec c.in_ok-outcome.outcome ∷ outcomes_seen g.J.Job.spec c.pop_front.new.self.items)
-came_out g c = subst (CameOutOnce (places_seen g.J.Job.spec c.self.inside.places) c.self.inside.line.works) (outcomes g c) c.self.invariant.came_out
+ended_once g c = subst (EndedOnce (places_seen g.J.Job.spec c.self.inside.places) c.self.inside.line.works) (outcomes g c) c.self.invariant.ended_once
 
 -- and its work has ended
 ended : (g : _) (c : In_ok-outcome g) → has_ended (queue_stage_at c.self.inside.line.works c.in_ok-outcome.outcome.number) ≡ true
-ended g c = first-ended _ c.self.inside.line.works (outcome_seen g.J.Job.spec c.in_ok-outcome.outcome) _ (came_out g c)
+ended g c = first-ended _ c.self.inside.line.works (outcome_seen g.J.Job.spec c.in_ok-outcome.outcome) _ (ended_once g c)
 
 entry : (g : _) (c : In_ok-outcome g) → (e : NumberedWork) × (queue_work_at c.self.inside.line.works c.in_ok-outcome.outcome.number ≡ Some e)
 entry g c = entry-live c.self.inside.line.works c.in_ok-outcome.outcome.number (ended-unfinished _ (ended g c))
@@ -94,7 +94,7 @@ returns-clause-unspent g c =
     let s = stands g b in
     let pool = pool_of (places_seen g.J.Job.spec c.self.inside.places) c.self.inside.places.issued c.self.inside.line.works
     (outcomes_seen g.J.Job.spec c.self.inside.finished.items) c.self.inside.closing in
-    let told = first-told _ _ o _ _ s (came_out g b) in
+    let told = first-told _ _ o _ _ s (ended_once g b) in
     c.finished_of.ensures.unspent
     ∙ unspent-of pool o.number _ o.unspent (numbered-at _ _ _ _ _ _ _ _ _ _ _ c.self.invariant o.number _ (places-rise g.J.Job.spec c.self.inside.places)
     (entry g b).1 (unfinished g b) s) told
