@@ -120,7 +120,7 @@ def status_numbers():
 
 def moment_statuses():
     """Returns the statuses of the refusals of calls that come at a wrong moment."""
-    return {name for kind, name in words_of("moment_refusal", "", set()) if kind == "status"}
+    return {name for kind, name in words_of("refusal_by_moment", "", set()) if kind == "status"}
 
 
 class Facts:

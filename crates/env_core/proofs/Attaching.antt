@@ -18,7 +18,7 @@ use Rattle.napi_types.specs.parts.Heap.{handle_value}
 use Rattle.napi_types.specs.parts.Scopes.{gives}
 use Rattle.napi_types.specs.parts.Values.{Value}
 use Rattle.napi_types.specs.environment.Environment.{Environment}
-use Rattle.napi_types.specs.environment.Refusals.{timely_refusal}
+use Rattle.napi_types.specs.environment.Refusals.{refusal_by_state}
 use Rattle.napi_types.proofs.plain.Found.{same-tells, same-self, has-found}
 use Rattle.napi_types.proofs.plain.Maps.{All-with_record}
 use Rattle.env_registry.specs.KeptRegistry.{AreOnce}
@@ -151,39 +151,41 @@ abbrev pub wrapped_here : Environment → HandleId → Bool
 wrapped_here e h = is_wrapped e.attachments (handle_value e.heap h.0)
 
 pub timely-wrap : (e : Environment) (h : HandleId) (payload : ℕ) (finalizer : Option ℕ) (hint : ℕ) (wanted : Bool)
-    → timely_refusal e (call.Wrap h payload finalizer hint wanted)
+    → refusal_by_state e (call.Wrap h payload finalizer hint wanted)
     ≡ option_or (option_or (target_refusal takes.Objects e.heap h) (when (wants_alone finalizer wanted) status.InvalidArg)) (when (wrapped_here e h) status.InvalidArg)
 timely-wrap e h payload None hint wanted = timely-row e h takes.Objects (when wanted status.InvalidArg) (when (wrapped_here e h) status.InvalidArg)
 timely-wrap e h payload (Some entry) hint wanted = timely-row e h takes.Objects None (when (wrapped_here e h) status.InvalidArg)
 
 pub timely-finalizer : (e : Environment) (h : HandleId) (payload entry hint : ℕ) (wanted : Bool)
-    → timely_refusal e (call.AddFinalizer h payload entry hint wanted) ≡ option_or (option_or (target_refusal takes.Objects e.heap h) None) None
+    → refusal_by_state e (call.AddFinalizer h payload entry hint wanted) ≡ option_or (option_or (target_refusal takes.Objects e.heap h) None) None
 timely-finalizer e h payload entry hint wanted = timely-row e h takes.Objects None None
 
 pub timely-unwrap : (e : Environment) (h : HandleId)
-    → timely_refusal e (call.Unwrap h) ≡ option_or (option_or (target_refusal takes.Objects e.heap h) None) (unless (wrapped_here e h) status.InvalidArg)
+    → refusal_by_state e (call.Unwrap h) ≡ option_or (option_or (target_refusal takes.Objects e.heap h) None) (unless (wrapped_here e h) status.InvalidArg)
 timely-unwrap e h = timely-row e h takes.Objects None (unless (wrapped_here e h) status.InvalidArg)
 
 pub timely-remove : (e : Environment) (h : HandleId)
-    → timely_refusal e (call.RemoveWrap h) ≡ option_or (option_or (target_refusal takes.Objects e.heap h) None) (unless (wrapped_here e h) status.InvalidArg)
+    → refusal_by_state e (call.RemoveWrap h) ≡ option_or (option_or (target_refusal takes.Objects e.heap h) None) (unless (wrapped_here e h) status.InvalidArg)
 timely-remove e h = timely-row e h takes.Objects None (unless (wrapped_here e h) status.InvalidArg)
 
 pub timely-tag : (e : Environment) (h : HandleId) (lower upper : ℕ)
-    → timely_refusal e (call.TypeTagObject h lower upper)
+    → refusal_by_state e (call.TypeTagObject h lower upper)
     ≡ option_or (option_or (target_refusal takes.ObjectsAndExternals e.heap h) None) (when (is_tagged e.attachments (handle_value e.heap h.0)) status.InvalidArg)
 timely-tag e h lower upper = timely-row e h takes.ObjectsAndExternals None (when (is_tagged e.attachments (handle_value e.heap h.0)) status.InvalidArg)
 
 pub timely-check : (e : Environment) (h : HandleId) (lower upper : ℕ)
-    → timely_refusal e (call.CheckObjectTypeTag h lower upper) ≡ option_or (option_or (target_refusal takes.ObjectsAndExternals e.heap h) None) None
+    → refusal_by_state e (call.CheckObjectTypeTag h lower upper) ≡ option_or (option_or (target_refusal takes.ObjectsAndExternals e.heap h) None) None
 timely-check e h lower upper = timely-row e h takes.ObjectsAndExternals None None
 
 -- a call is refused for its handle
-pub target-refused : (e : Environment) (c : Call) (o row hung : Option Status) (st : Status) → timely_refusal e c ≡ option_or (option_or o row) hung → Some st ≡ o
+pub target-refused : (e : Environment) (c : Call) (o row hung : Option Status) (st : Status) → refusal_by_state e c ≡ option_or (option_or o row) hung
+    → Some st ≡ o
     → AnswersInTime e c (plain st out.Nothing) e
 target-refused e c o row hung st is why = refused-timely e c st (is ∙ ap (λ p. option_or (option_or p row) hung) (sym why))
 
 -- its handle is taken: only what the call says, and then what is attached, can refuse it
-pub target-taken : (e : Environment) (c : Call) (o row hung : Option Status) → timely_refusal e c ≡ option_or (option_or o row) hung → None ≡ o → timely_refusal e c ≡ option_or row hung
+pub target-taken : (e : Environment) (c : Call) (o row hung : Option Status) → refusal_by_state e c ≡ option_or (option_or o row) hung → None ≡ o
+    → refusal_by_state e c ≡ option_or row hung
 target-taken e c o row hung is none = is ∙ ap (λ p. option_or (option_or p row) hung) (sym none)
 
 -- what is not there is none
@@ -280,7 +282,7 @@ module _ (e : Environment) (s : StoreState) (sound : IsSoundStore s) (a : Attach
 
   pub wrap-unrefused : (payload hint : ℕ) (finalizer : Option ℕ) (wanted : Bool) (o : Option ℕ) → None ≡ target_refusal takes.Objects e.heap h
       → o ≡ option_map (λ (w : Wrapped). w.payload) (wrap_of a v) → wants_alone finalizer wanted ≡ false → is_some o ≡ false
-      → timely_refusal (attaching e s a) (call.Wrap h payload finalizer hint wanted) ≡ None
+      → refusal_by_state (attaching e s a) (call.Wrap h payload finalizer hint wanted) ≡ None
   wrap-unrefused payload hint finalizer wanted o taken is apart free =
       target-taken (attaching e s a) (call.Wrap h payload finalizer hint wanted) (target_refusal takes.Objects e.heap h) (when (wants_alone finalizer wanted) status.InvalidArg)
       (when (wrapped_here (attaching e s a) h) status.InvalidArg) (timely-wrap (attaching e s a) h payload finalizer hint wanted) taken
@@ -303,7 +305,7 @@ module _ (e : Environment) (s : StoreState) (sound : IsSoundStore s) (a : Attach
       ∙ ap (λ b. unless b status.InvalidArg) (seen-is_wrapped None is))
 
   pub remove-unrefused : (payload : ℕ) → None ≡ target_refusal takes.Objects e.heap h → Some payload ≡ option_map (λ (w : Wrapped). w.payload) (wrap_of a v)
-      → timely_refusal (attaching e s a) (call.RemoveWrap h) ≡ None
+      → refusal_by_state (attaching e s a) (call.RemoveWrap h) ≡ None
   remove-unrefused payload taken is =
       target-taken (attaching e s a) (call.RemoveWrap h) (target_refusal takes.Objects e.heap h) None (unless (wrapped_here (attaching e s a) h) status.InvalidArg) (timely-remove (attaching e s a) h) taken
       ∙ ap (λ b. unless b status.InvalidArg) (seen-is_wrapped (Some payload) is)
@@ -332,14 +334,14 @@ module _ (e : Environment) (s : StoreState) (sound : IsSoundStore s) (a : Attach
       ∙ ap (λ b. when b status.InvalidArg) (seen-is_tagged o is ∙ there))
 
   pub tag-unrefused : (lower upper : ℕ) (o : Option (ℕ × ℕ)) → None ≡ target_refusal takes.ObjectsAndExternals e.heap h → o ≡ option_map halves (tag_of a v) → is_some o ≡ false
-      → timely_refusal (attaching e s a) (call.TypeTagObject h lower upper) ≡ None
+      → refusal_by_state (attaching e s a) (call.TypeTagObject h lower upper) ≡ None
   tag-unrefused lower upper o taken is absent =
       target-taken (attaching e s a) (call.TypeTagObject h lower upper) (target_refusal takes.ObjectsAndExternals e.heap h) None
       (when (is_tagged (attachments_seen s a) (handle_value e.heap h.0)) status.InvalidArg) (timely-tag (attaching e s a) h lower upper) taken
       ∙ ap (λ b. when b status.InvalidArg) (seen-is_tagged o is ∙ absent)
 
   pub tag-answers : (lower upper : ℕ) → AreOnce a → None ≡ option_map halves (tag_of a v)
-      → timely_refusal (attaching e s a) (call.TypeTagObject h lower upper) ≡ None
+      → refusal_by_state (attaching e s a) (call.TypeTagObject h lower upper) ≡ None
       → AnswersInTime (attaching e s a) (call.TypeTagObject h lower upper) (plain status.Ok out.Nothing) (attaching e s (with_tag v lower upper a))
   tag-answers lower upper once free none =
       accepted-timely (attaching e s a) (attaching e s (with_tag v lower upper a)) (call.TypeTagObject h lower upper) out.Nothing none refl

@@ -28,8 +28,8 @@ use Rattle.napi_types.specs.environment.Calls.{answer_unless, answer_unless_deep
 use Rattle.napi_types.specs.environment.Changes.{number_of}
 use Rattle.napi_types.specs.environment.Environment.{Environment, with_heap, TsfnRoot}
 use Rattle.napi_types.specs.environment.ExceptionCalls.{with_pending, with_thrown_error}
-use Rattle.napi_types.specs.environment.Moments.{moment_refusal}
-use Rattle.napi_types.specs.environment.Refusals.{timely_refusal, early_refusal, depth_refusal}
+use Rattle.napi_types.specs.environment.Moments.{refusal_by_moment}
+use Rattle.napi_types.specs.environment.Refusals.{refusal_by_state, refusal_before_depth, depth_refusal}
 use Rattle.napi_types.proofs.plain.Lists.{length-changed}
 use Rattle.handle_scope.specs.HandleScopes.{HandleScopes, with_issued_handle}
 use Rattle.env_values.specs.SeenValues.{heap_of}
@@ -45,34 +45,36 @@ no-depth fs (call.CallFunction receiver f args) h = cc
 no-depth fs _ h = refl
 
 -- every other call answers what the refusals before the depth limit give
-given-answer : (e : Environment) (c : Call) (n : ℕ) → is_calling c ≡ false → answer_unless e c n (early_refusal e c) ≡ answer e c n
-given-answer e c n h = ap (answer_unless_deep e c n (early_refusal e c)) (sym (no-depth e.frames c h))
+given-answer : (e : Environment) (c : Call) (n : ℕ) → is_calling c ≡ false → answer_unless e c n (refusal_before_depth e c) ≡ answer e c n
+given-answer e c n h = ap (answer_unless_deep e c n (refusal_before_depth e c)) (sym (no-depth e.frames c h))
 
 -- a call at a right moment answers what the other refusals give
-answers-in-time : (e new : Environment) (c : Call) (r : Reply) → is_calling c ≡ false → None ≡ moment_refusal e c → AnswersInTime e c r new → Answers e c r new
+answers-in-time : (e new : Environment) (c : Call) (r : Reply) → is_calling c ≡ false → None ≡ refusal_by_moment e c → AnswersInTime e c r new
+    → Answers e c r new
 answers-in-time e new c r other h a =
-    let same : answer_unless e c (number_of r.out) (timely_refusal e c) ≡ answer e c (number_of r.out) =
-    ap (λ o. answer_unless e c (number_of r.out) (option_or o (timely_refusal e c))) h ∙ given-answer e c (number_of r.out) other in
+    let same : answer_unless e c (number_of r.out) (refusal_by_state e c) ≡ answer e c (number_of r.out) =
+    ap (λ o. answer_unless e c (number_of r.out) (option_or o (refusal_by_state e c))) h ∙ given-answer e c (number_of r.out) other in
     record {
       fresh = a.fresh;
       reply = a.reply ∙ ap (λ (x : Answer Environment). x.reply) same;
       after = a.after ∙ ap (λ (x : Answer Environment). x.after) same;
     }
 
-pub in-time : {E : Type 0} (e new : Environment) (c : Call) (r : Result Reply E) → is_calling c ≡ false → None ≡ moment_refusal e c → IfOk r (λ reply. AnswersInTime e c reply new) → IfOk r (λ reply. Answers e c reply new)
+pub in-time : {E : Type 0} (e new : Environment) (c : Call) (r : Result Reply E) → is_calling c ≡ false → None ≡ refusal_by_moment e c
+    → IfOk r (λ reply. AnswersInTime e c reply new) → IfOk r (λ reply. Answers e c reply new)
 in-time e new c (Ok r) other h a = answers-in-time e new c r other h a
 in-time e new c (Err x) other h a = tt
 
 -- the same where status and result of the reply are answered alone
-pub plain-in-time : {E : Type 0} (e new : Environment) (c : Call) (r : Result (Status × Out) E) → is_calling c ≡ false → None ≡ moment_refusal e c
+pub plain-in-time : {E : Type 0} (e new : Environment) (c : Call) (r : Result (Status × Out) E) → is_calling c ≡ false → None ≡ refusal_by_moment e c
     → IfOk r (λ told. AnswersInTime e c (plain told.0 told.1) new) → IfOk r (λ told. Answers e c (plain told.0 told.1) new)
 plain-in-time e new c (Ok told) other h a = answers-in-time e new c (plain told.0 told.1) other h a
 plain-in-time e new c (Err x) other h a = tt
 
 -- one at a wrong moment is refused, and changes nothing
-pub out-of-time : (e : Environment) (c : Call) (s : Status) → is_calling c ≡ false → Some s ≡ moment_refusal e c → Answers e c (plain s out.Nothing) e
+pub out-of-time : (e : Environment) (c : Call) (s : Status) → is_calling c ≡ false → Some s ≡ refusal_by_moment e c → Answers e c (plain s out.Nothing) e
 out-of-time e c s other h =
-    let why : Some s ≡ early_refusal e c = ap (λ o. option_or o (timely_refusal e c)) h in
+    let why : Some s ≡ refusal_before_depth e c = ap (λ o. option_or o (refusal_by_state e c)) h in
     let same : answer_unless e c 0 (Some s) ≡ answer e c 0 = ap (answer_unless e c 0) why ∙ given-answer e c 0 other in
     record {
       fresh = refl;
@@ -102,7 +104,7 @@ accepted-throw e store scopes h v given =
     let known : gives (heap_of store scopes).scopes h.0 ≡ Some (number_in store v) = known-handle store scopes h.0 v given in
     let none : refusal_in e.texts (heap_of store scopes) (call.Throw h) ≡ None = throw-refusal e.texts (heap_of store scopes) h true (ap is_some known) in
     let value : handle_value (heap_of store scopes) h.0 ≡ number_in store v = ap (λ o. unwrap_or o undefined_value) known in
-    let answer : answer_unless env (call.Throw h) 0 (timely_refusal env (call.Throw h)) ≡ accepts out.Nothing (with_pending (Some (number_in store v)) env) =
+    let answer : answer_unless env (call.Throw h) 0 (refusal_by_state env (call.Throw h)) ≡ accepts out.Nothing (with_pending (Some (number_in store v)) env) =
     ap (λ o. answer_unless env (call.Throw h) 0 (option_or o None)) none ∙ ap (λ n. accepts out.Nothing (with_pending (Some n) env)) value in
     record { fresh = refl; reply = ap (λ (a : Answer Environment). a.reply) (sym answer); after = ap (λ (a : Answer Environment). a.after) (sym answer) }
 
@@ -125,7 +127,7 @@ pub accepted-thrown : (e : Environment) (s t : StoreState) (scopes : HandleScope
 accepted-thrown e s t scopes code message id known heap number =
     let env : Environment = with_parts e s scopes in
     let none : refusal_in e.texts (heap_of s scopes) (call.ThrowError code message) ≡ None = thrown-refusal e.texts (heap_of s scopes) code message true known in
-    let answer : answer_unless env (call.ThrowError code message) 0 (timely_refusal env (call.ThrowError code message))
+    let answer : answer_unless env (call.ThrowError code message) 0 (refusal_by_state env (call.ThrowError code message))
     ≡ accepts out.Nothing (with_pending (Some (thrown_number code message (heap_of s scopes))) (with_heap env (with_thrown code message (heap_of s scopes)))) =
     ap (λ o. answer_unless env (call.ThrowError code message) 0 (option_or o None)) none in
     record {

@@ -25,7 +25,7 @@ use Rattle.napi_types.specs.parts.Scopes.{OpenHandle, FrameScopes, gives, opened
 use Rattle.napi_types.specs.parts.Values.{undefined_value}
 use Rattle.napi_types.specs.environment.Calls.{effect, answer_unless}
 use Rattle.napi_types.specs.environment.Environment.{Environment, with_heap, in_heap, TsfnRoot}
-use Rattle.napi_types.specs.environment.Refusals.{group_refusal, timely_refusal}
+use Rattle.napi_types.specs.environment.Refusals.{group_refusal, refusal_by_state}
 use Rattle.napi_types.proofs.plain.Lists.{length-changed}
 use Rattle.handle_scope.specs.HandleScopes.{HandleScopes, is_fresh_scope, with_open_scope, without_innermost_scope, with_escaped_handle}
 use Rattle.env_values.specs.SeenValues.{heap_of}
@@ -66,7 +66,7 @@ accepted-open e store old new scope_kind.Escapable scope fresh opened = record {
 pub by-refusal : (e : Environment) (store : StoreState) (old new : HandleScopes) (c : Call) (s : Status)
     → refusal_in e.texts (heap_of store old) c ≡ Some s → new ≡ old → AnswersInTime (with_parts e store old) c (plain s out.Nothing) (with_parts e store new)
 by-refusal e store old new c s why same =
-    let first : Some s ≡ timely_refusal (with_parts e store old) c = sym (ap (λ o. option_or o (group_refusal (with_parts e store old) c)) why) in
+    let first : Some s ≡ refusal_by_state (with_parts e store old) c = sym (ap (λ o. option_or o (group_refusal (with_parts e store old) c)) why) in
     record {
       fresh = refl;
       reply = ap (λ (o : Option Status). (answer_unless (with_parts e store old) c 0 o).reply) first;
@@ -88,8 +88,8 @@ by-close : (e : Environment) (store : StoreState) (old new : HandleScopes) (c : 
     → AnswersInTime (with_parts e store old) c (plain status.Ok out.Nothing) (with_parts e store new)
 by-close e store old new c why later is closed =
     let env : Environment = with_parts e store old in
-    let first : timely_refusal env c ≡ None = ap (λ o. option_or o (group_refusal env c)) why ∙ later in
-    let answer : answer_unless env c 0 (timely_refusal env c) ≡ in_heap env (accepts out.Nothing (in_scopes close_in (heap_of store old))) =
+    let first : refusal_by_state env c ≡ None = ap (λ o. option_or o (group_refusal env c)) why ∙ later in
+    let answer : answer_unless env c 0 (refusal_by_state env c) ≡ in_heap env (accepts out.Nothing (in_scopes close_in (heap_of store old))) =
     ap (answer_unless env c 0) first ∙ is in
     record {
       fresh = refl;
@@ -146,7 +146,7 @@ accepted-escape e store old new scope h made v given why next escaped =
     let value : handle_value heap h.0 ≡ number_in store v = ap (λ o. unwrap_or o undefined_value) known in
     let env : Environment = with_parts e store old in
     let given_handle : ℕ → Answer Environment = λ n. in_heap env (accepts (out.Handle (record { 0 = old.handles + 1 })) (with_escaped scope.0 n heap)) in
-    let answer : answer_unless env (call.EscapeHandle scope h) 0 (timely_refusal env (call.EscapeHandle scope h)) ≡ given_handle (number_in store v) =
+    let answer : answer_unless env (call.EscapeHandle scope h) 0 (refusal_by_state env (call.EscapeHandle scope h)) ≡ given_handle (number_in store v) =
     ap (λ o. answer_unless env (call.EscapeHandle scope h) 0 (option_or o None)) none ∙ ap given_handle value in
     record {
       fresh = refl;

@@ -32,7 +32,7 @@ use Rattle.napi_types.specs.environment.Entering.{is_entering}
 use Rattle.napi_types.specs.environment.Environment.{Environment}
 use Rattle.napi_types.specs.environment.Hooked.{is_late, IsHooked}
 use Rattle.napi_types.specs.environment.JournalRoom.{gone_place, reserved_journal}
-use Rattle.napi_types.specs.environment.Refusals.{refusal, early_refusal, depth_refusal}
+use Rattle.napi_types.specs.environment.Refusals.{refusal, refusal_before_depth, depth_refusal}
 use Rattle.napi_types.specs.environment.Tickets.{ticket_change, ticket_in, next_ticket}
 use Rattle.napi_types.proofs.parts.BookSteps.{step-length}
 use Rattle.napi_types.proofs.parts.Books.{owed-begun, lowest-due, length-changed_where}
@@ -102,7 +102,8 @@ called-places e receiver f args x new promised calls =
     let c : Call = call.CallFunction receiver f args in
     let places : 1 + 2 * one_if (is_some x.reply.made) ≤ 2 = (calls-keep e new c x calls).makes.places in
     let drops : x.reply.dropped ≡ None =
-    ap (λ (y : Entry). y.reply.dropped) calls.entry ∙ called-drops e receiver f args (number_of x.reply.out) (early_refusal e c) (depth_refusal e.frames c) in
+    ap (λ (y : Entry). y.reply.dropped) calls.entry ∙ called-drops e receiver f args (number_of x.reply.out) (refusal_before_depth e c)
+    (depth_refusal e.frames c) in
     let none : one_if (is_some x.reply.dropped) ≡ 0 = ap (λ o. one_if (is_some o)) drops in
     omega (arith, places, none)
 

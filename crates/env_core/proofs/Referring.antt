@@ -23,7 +23,7 @@ use Rattle.napi_types.specs.environment.Calls.{effect, answer_unless}
 use Rattle.napi_types.specs.environment.Changes.{number_of, is_fresh_result}
 use Rattle.napi_types.specs.environment.Environment.{Environment, in_heap}
 use Rattle.napi_types.specs.environment.ReferenceCalls.{counted_up, value_told}
-use Rattle.napi_types.specs.environment.Refusals.{timely_refusal}
+use Rattle.napi_types.specs.environment.Refusals.{refusal_by_state}
 use Rattle.napi_types.proofs.plain.Maps.{map-filter, map-with_record}
 use Rattle.handle_scope.specs.HandleScopes.{HandleScopes}
 use Rattle.env_values.specs.SeenValues.{heap_of}
@@ -107,7 +107,7 @@ module _ (s : StoreState) where
 
 -- WHAT A CALL ANSWERS
 -- one that is refused
-pub refused-timely : (e : Environment) (c : Call) (s : Status) → timely_refusal e c ≡ Some s → AnswersInTime e c (plain s out.Nothing) e
+pub refused-timely : (e : Environment) (c : Call) (s : Status) → refusal_by_state e c ≡ Some s → AnswersInTime e c (plain s out.Nothing) e
 refused-timely e c s why = record {
   fresh = refl;
   reply = ap (λ (o : Option Status). (answer_unless e c 0 o).reply) (sym why);
@@ -115,9 +115,11 @@ refused-timely e c s why = record {
 }
 
 -- one that is accepted, whatever duties its reply tells
-pub replied-timely : (e new : Environment) (c : Call) (r : Reply) → timely_refusal e c ≡ None → is_fresh_result e r.out ≡ true → effect e c (number_of r.out) ≡ record { reply = r; after = new } → AnswersInTime e c r new
+pub replied-timely : (e new : Environment) (c : Call) (r : Reply) → refusal_by_state e c ≡ None → is_fresh_result e r.out ≡ true
+    → effect e c (number_of r.out) ≡ record { reply = r; after = new } → AnswersInTime e c r new
 replied-timely e new c r none fresh is =
-    let answer : answer_unless e c (number_of r.out) (timely_refusal e c) ≡ record { reply = r; after = new } = ap (answer_unless e c (number_of r.out)) none ∙ is in
+    let answer : answer_unless e c (number_of r.out) (refusal_by_state e c) ≡ record { reply = r; after = new } = ap (answer_unless e c (number_of r.out)) none
+    ∙ is in
     record {
       fresh = fresh;
       reply = ap (λ (a : Answer Environment). a.reply) (sym answer);
@@ -125,14 +127,15 @@ replied-timely e new c r none fresh is =
     }
 
 -- the same where it tells none
-pub accepted-timely : (e new : Environment) (c : Call) (o : Out) → timely_refusal e c ≡ None → is_fresh_result e o ≡ true → effect e c (number_of o) ≡ accepts o new → AnswersInTime e c (plain status.Ok o) new
+pub accepted-timely : (e new : Environment) (c : Call) (o : Out) → refusal_by_state e c ≡ None → is_fresh_result e o ≡ true
+    → effect e c (number_of o) ≡ accepts o new → AnswersInTime e c (plain status.Ok o) new
 accepted-timely e new c o none fresh is = replied-timely e new c (plain status.Ok o) none fresh is
 
 -- a call that nothing else refuses is refused for its reference alone
 abbrev pub NamesReference : Environment → Call → Type 0
-NamesReference e c = timely_refusal e c ≡ reference_refusal e.references c
+NamesReference e c = refusal_by_state e c ≡ reference_refusal e.references c
 
-pub by-reference : (e : Environment) (c : Call) (o : Option Status) → reference_refusal e.references c ≡ o → NamesReference e c → timely_refusal e c ≡ o
+pub by-reference : (e : Environment) (c : Call) (o : Option Status) → reference_refusal e.references c ≡ o → NamesReference e c → refusal_by_state e c ≡ o
 by-reference e c o h only = only ∙ h
 
 -- A CALL ON A REFERENCE
@@ -154,7 +157,8 @@ accepted-answers : (e : Environment) (s : StoreState) (m n : ReferenceMap) (c : 
 accepted-answers e s m n c o h k fresh is =
     accepted-timely (referring e s m) (referring e s n) c o (by-reference (referring e s m) c None (seen-refusal s m c ∙ sym h) k) fresh is
 
-pub made-answers : (e : Environment) (s : StoreState) (m n : ReferenceMap) (h : HandleId) (v count : ℕ) (r : RefId) → timely_refusal e (call.CreateReference h count) ≡ None
+pub made-answers : (e : Environment) (s : StoreState) (m n : ReferenceMap) (h : HandleId) (v count : ℕ) (r : RefId)
+    → refusal_by_state e (call.CreateReference h count) ≡ None
     → has_number r.0 (0 ∷ m.issued) ≡ false → number_in s v ≡ handle_value e.heap h.0 → n ≡ with_reference r.0 v count m
     → AnswersInTime (referring e s m) (call.CreateReference h count) (plain status.Ok (out.Ref r)) (referring e s n)
 made-answers e s m n h v count r none fresh is made =

@@ -27,7 +27,7 @@ use Rattle.napi_types.specs.environment.Changes.{number_of, is_fresh_result}
 use Rattle.napi_types.specs.environment.Environment.{Environment, in_heap}
 use Rattle.napi_types.specs.environment.ExternalCalls.{attached_if}
 use Rattle.napi_types.specs.environment.ReferenceCalls.{with_references}
-use Rattle.napi_types.specs.environment.Refusals.{timely_refusal}
+use Rattle.napi_types.specs.environment.Refusals.{refusal_by_state}
 use Rattle.napi_types.specs.environment.Registering.{finalizer_if, ticket_if, registering_if, registered_only, withdrawing}
 use Rattle.napi_types.specs.environment.WrapCalls.{referring_if}
 use Rattle.napi_types.proofs.plain.Maps.{All-with_record, map-with_record}
@@ -117,7 +117,7 @@ withdrawing-is None o e = refl
 withdrawing-is (Some n) o e = refl
 
 -- one that registers, where there is something to register
-registered-answers : (e mid new : Environment) (c : Call) (o : Out) (asked f : Option Registration) → timely_refusal e c ≡ None → is_fresh_result e o ≡ true
+registered-answers : (e mid new : Environment) (c : Call) (o : Out) (asked f : Option Registration) → refusal_by_state e c ≡ None → is_fresh_result e o ≡ true
     → effect e c (number_of o) ≡ registering_if asked (accepts o mid) → f ≡ asked → new ≡ record mid { book = with_registration_if f mid.book }
     → AnswersInTime e c (told o None (duty_if (ticket_for mid.book f))) new
 registered-answers e mid new c o asked f none fresh is same after =
@@ -168,7 +168,8 @@ module _ (e : Environment) (s : StoreState) (sound : IsSoundStore s) (a : Attach
   named = handle_value e.heap h.0
 
   pub wrap-answers : (n : ReferenceMap) (payload hint : ℕ) (entry : Option ℕ) (wanted : Bool) (o : Out) (f : Option Registration) → AreOnce a
-      → timely_refusal (attached_with e s a m book) (call.Wrap h payload entry hint wanted) ≡ None → None ≡ option_map (λ (w : Wrapped). w.payload) (wrap_of a v)
+      → refusal_by_state (attached_with e s a m book) (call.Wrap h payload entry hint wanted) ≡ None → None ≡ option_map (λ (w : Wrapped). w.payload)
+      (wrap_of a v)
       → f ≡ finalizer_if e payload entry hint → RefersIf wanted v m o n
       → AnswersInTime (attached_with e s a m book) (call.Wrap h payload entry hint wanted) (told o None (duty_if (ticket_for book f)))
       (attached_with e s (with_wrap v payload (ticket_for book f) a) n (with_registration_if f book))
@@ -187,7 +188,8 @@ module _ (e : Environment) (s : StoreState) (sound : IsSoundStore s) (a : Attach
       (refers-fresh here wanted named o (references_seen s n) seen) (ap (registering_if asked) (referring-is mid wanted named o (references_seen s n) seen)) is
       (ap (λ x. record here { attachments = x; references = references_seen s n; book = with_registration_if f book }) hung)
 
-  pub finalizer-unrefused : (payload entry hint : ℕ) (wanted : Bool) → None ≡ target_refusal takes.Objects e.heap h → timely_refusal (attached_with e s a m book) (call.AddFinalizer h payload entry hint wanted) ≡ None
+  pub finalizer-unrefused : (payload entry hint : ℕ) (wanted : Bool) → None ≡ target_refusal takes.Objects e.heap h → refusal_by_state
+      (attached_with e s a m book) (call.AddFinalizer h payload entry hint wanted) ≡ None
   finalizer-unrefused payload entry hint wanted taken =
       target-taken here (call.AddFinalizer h payload entry hint wanted) (target_refusal takes.Objects e.heap h) None None (timely-finalizer here h payload entry hint wanted) taken
 
@@ -219,7 +221,8 @@ module _ (e : Environment) (s : StoreState) (sound : IsSoundStore s) (a : Attach
       by None = refl
       by (Some w) = refl
 
-  pub remove-answers : (payload : ℕ) → timely_refusal (attached_with e s a m book) (call.RemoveWrap h) ≡ None → Some payload ≡ option_map (λ (w : Wrapped). w.payload) (wrap_of a v)
+  pub remove-answers : (payload : ℕ) → refusal_by_state (attached_with e s a m book) (call.RemoveWrap h) ≡ None → Some payload ≡ option_map
+      (λ (w : Wrapped). w.payload) (wrap_of a v)
       → let ticket = registered_only book (wrap_ticket a v) in
       AnswersInTime (attached_with e s a m book) (call.RemoveWrap h) (told (out.Unsigned payload) (duty_if ticket) None) (attached_with e s (without_wrap v a) m (withdrawn_if ticket book))
   remove-answers payload none is =

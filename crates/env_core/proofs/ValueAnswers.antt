@@ -20,7 +20,7 @@ use Rattle.napi_types.specs.parts.References.{Reference, ReferenceMap}
 use Rattle.napi_types.specs.environment.Calls.{effect, answer_unless}
 use Rattle.napi_types.specs.environment.Changes.{is_fresh_result, number_of}
 use Rattle.napi_types.specs.environment.Environment.{Environment, TsfnRoot, with_heap, in_heap}
-use Rattle.napi_types.specs.environment.Refusals.{group_refusal, timely_refusal}
+use Rattle.napi_types.specs.environment.Refusals.{group_refusal, refusal_by_state}
 use Rattle.napi_types.proofs.plain.Lists.{option_or-none}
 use Rattle.napi_types.proofs.environment.AnswersKeep.{heap_answer-keeps}
 use Rattle.std.specs.Option.{option_or}
@@ -73,7 +73,7 @@ no-group : (e : Environment) (c : Call) → is_value_call c ≡ true → group_r
 no-group e call.Exit h = cc
 no-group e _ h = cc
 
-pub timely-value : (e : Environment) (c : Call) → is_value_call c ≡ true → timely_refusal e c ≡ refusal_in e.texts e.heap c
+pub timely-value : (e : Environment) (c : Call) → is_value_call c ≡ true → refusal_by_state e c ≡ refusal_in e.texts e.heap c
 timely-value e c h = ap (option_or (refusal_in e.texts e.heap c)) (no-group e c h) ∙ option_or-none (refusal_in e.texts e.heap c)
 
 -- the reply of such a call, and the heap that it leaves, are the machine's answer in the environment
@@ -86,7 +86,7 @@ value-answers e addon c heap (Ok told) h caller replies leaves =
     let n = number_of r.out in
     let any : heap_answer e.texts addon e.heap c 0 ≡ heap_answer e.texts (caller_of e.frames) e.heap c n =
     answer-any e.texts addon e.heap c n h ∙ ap (λ a. heap_answer e.texts a e.heap c n) caller in
-    let given : answer_unless e c n (timely_refusal e c) ≡ in_heap e (heap_answer e.texts (caller_of e.frames) e.heap c n) =
+    let given : answer_unless e c n (refusal_by_state e c) ≡ in_heap e (heap_answer e.texts (caller_of e.frames) e.heap c n) =
     ap (answer_unless e c n) (timely-value e c h) ∙ given-in_heap e c n (refusal_in e.texts e.heap c) h in
     record {
       fresh = ap (λ (q : Reply). is_fresh_result e q.out) replies ∙ answer-fresh e e.texts addon e.heap c 0 h;

@@ -18,7 +18,7 @@ use Rattle.napi_types.specs.parts.Book.{Registration, registration_at, due_info}
 use Rattle.napi_types.specs.environment.Changes.{Change, call_change, call_entry, with_noted_status, number_of, is_fresh_result}
 use Rattle.napi_types.specs.environment.Entering.{is_entering, enter_change}
 use Rattle.napi_types.specs.environment.Environment.{Environment}
-use Rattle.napi_types.specs.environment.Refusals.{early_refusal}
+use Rattle.napi_types.specs.environment.Refusals.{refusal_before_depth}
 use Rattle.napi_types.specs.environment.SharedCalls.{shared_call_of}
 use Rattle.napi_types.specs.environment.Tickets.{ticket_change, next_ticket}
 use Rattle.env_core.specs.declared.env.Stepped.{Stepped}
@@ -68,7 +68,7 @@ IsHandedOver old c _ new = ⊥
 -- the call grows, and nothing refuses it, the depth limit left aside
 pub record GrowsUnrefused (e : Environment) (c : Call) : Type 0 where
   pub grows : IsTrue (is_growing c)
-  pub unrefused : early_refusal e c ≡ None
+  pub unrefused : refusal_before_depth e c ≡ None
 
 -- entries, reserved places and the call's need pass the first places
 abbrev pub PassesFirstPlaces : Room → Call → Type 0

@@ -28,7 +28,7 @@ use Rattle.napi_types.specs.environment.Calls.{answer_unless, answer}
 use Rattle.napi_types.specs.environment.Changes.{call_change, call_entry, number_of, is_fresh_result}
 use Rattle.napi_types.specs.environment.Entering.{is_entering, enter_change}
 use Rattle.napi_types.specs.environment.Environment.{Environment, TsfnRoot}
-use Rattle.napi_types.specs.environment.Refusals.{timely_refusal, refusal}
+use Rattle.napi_types.specs.environment.Refusals.{refusal_by_state, refusal}
 use Rattle.handle_scope.specs.HandleScopes.{HandleScopes}
 use Rattle.env_core.specs.declared.state.calling.Called.{Called}
 use Rattle.env_core.specs.declared.state.calling.Called.TheVariants as called_of
@@ -91,7 +91,7 @@ Answers old c r new = AnswersBy (answer old c) old r new
 
 -- the same where the call comes at a right moment, so that it is not asked whether it is guarded or registers
 abbrev pub AnswersInTime : Environment → Call → Reply → Environment → Type 0
-AnswersInTime old c r new = AnswersBy (λ n. answer_unless old c n (timely_refusal old c)) old r new
+AnswersInTime old c r new = AnswersBy (λ n. answer_unless old c n (refusal_by_state old c)) old r new
 
 -- the call grows, nothing that is asked before memory refuses it, and the environment is as it was
 pub record FindsNoMemory (old : Environment) (c : Call) (refused : Option Status) (new : Environment) : Type 0 where

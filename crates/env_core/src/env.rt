@@ -13,7 +13,7 @@ ghost use Rattle.napi_types.specs.parts.Frames.{asks_made, cause_of, duty_of, is
 ghost use Rattle.napi_types.specs.environment.Calls.{with_depth_error};
 ghost use Rattle.napi_types.specs.environment.Changes.{call_change, init_change};
 ghost use Rattle.napi_types.specs.environment.Ends.{end_change};
-ghost use Rattle.napi_types.specs.environment.Refusals.{early_refusal, depth_refusal};
+ghost use Rattle.napi_types.specs.environment.Refusals.{refusal_before_depth, depth_refusal};
 ghost use Rattle.napi_types.specs.environment.Tickets.{next_ticket};
 ghost use Rattle.env_core.specs.Standing.{machine_frame};
 ghost use Rattle.env_core.specs.Core.{opened_core, after_change, after_phase, at_position, next_init, room_in};
@@ -125,9 +125,9 @@ impl EnvCore {
 
         // A refusal changes nothing, but that its entry stands in the journal, its status is noted and its ask is counted;
         // at the depth limit an exception is pending besides.
-        ensures refused { (s : Status) → early_refusal self.old.env call.now ≡ Some s
+        ensures refused { (s : Status) → refusal_before_depth self.old.env call.now ≡ Some s
             → IfReply result (λ reply. RefusedAs self.old call.now s self.old.env reply self.new) }
-        ensures depth_limit { (s : Status) → early_refusal self.old.env call.now ≡ None → depth_refusal self.old.env.frames call.now ≡ Some s
+        ensures depth_limit { (s : Status) → refusal_before_depth self.old.env call.now ≡ None → depth_refusal self.old.env.frames call.now ≡ Some s
             → IfReply result (λ reply. RefusedAs self.old call.now s (with_depth_error self.old.env) reply self.new) }
 
         // A call that stops changes nothing. A local one says why it stopped: a refusal comes before a growth that finds no memory. Where it

@@ -14,8 +14,8 @@ ghost use Rattle.napi_types.specs.parts.Properties.{most_names};
 ghost use Rattle.napi_types.specs.environment.Changes.{opening_change, init_change, gone_change, in_phase, with_noted_status, call_entry};
 ghost use Rattle.napi_types.specs.environment.Environment.{new_environment};
 ghost use Rattle.napi_types.specs.environment.Hooked.{IsHooked};
-ghost use Rattle.napi_types.specs.environment.Moments.{guard_status, is_tearing, moment_refusal};
-ghost use Rattle.napi_types.specs.environment.Refusals.{timely_refusal, early_refusal};
+ghost use Rattle.napi_types.specs.environment.Moments.{guard_status, is_tearing, refusal_by_moment};
+ghost use Rattle.napi_types.specs.environment.Refusals.{refusal_by_state, refusal_before_depth};
 ghost use Rattle.napi_types.specs.environment.Registering.{finalizer_if};
 ghost use Rattle.env_core.specs.Standing.{machine_frame};
 ghost use Rattle.env_registry.specs.Registering.{registration_of};
@@ -182,7 +182,7 @@ impl State {
         requires numbers { HasNumbersFor self.old }
         requires hooked { IsHooked self.old }
         ensures ok { IfOk result (λ reply. Calls self.old call.now (call_entry self.old call.now reply) self.new) }
-        ensures stopped { OnErr result (FindsNoMemory self.old call.now (early_refusal self.old call.now) self.new) }
+        ensures stopped { OnErr result (FindsNoMemory self.old call.now (refusal_before_depth self.old call.now) self.new) }
     {
         let reply = self.answer(call, group)?;
         self.note(call, reply.status);
@@ -199,7 +199,7 @@ impl State {
         requires numbers { HasNumbersFor self.old }
         requires hooked { IsHooked self.old }
         ensures ok { IfOk result (λ told. Calls self.old call.now (call_entry self.old call.now (plain_reply told.0 told.1)) self.new) }
-        ensures stopped { OnErr result (FindsNoMemory self.old call.now (early_refusal self.old call.now) self.new) }
+        ensures stopped { OnErr result (FindsNoMemory self.old call.now (refusal_before_depth self.old call.now) self.new) }
     {
         let (status, out) = self.answer_on_values(call)?;
         self.note(call, status);
@@ -241,9 +241,9 @@ impl State {
         requires numbers { HasNumbersFor self.old }
         requires hooked { IsHooked self.old }
         ensures ok { IfOk result (λ reply. Answers self.old call.now reply self.new) }
-        ensures stopped { OnErr result (FindsNoMemory self.old call.now (early_refusal self.old call.now) self.new) }
+        ensures stopped { OnErr result (FindsNoMemory self.old call.now (refusal_before_depth self.old call.now) self.new) }
     {
-        match self.untimely(call) {
+        match self.refusal_by_moment(call) {
             Some(status) => Ok(Reply::plain(status, Out::Nothing)),
             None => self.answer_in_time(call, group),
         }
@@ -256,9 +256,9 @@ impl State {
         requires value_call { is_value_call call.now ≡ true }
         requires numbers { HasNumbersFor self.old }
         ensures ok { IfOk result (λ told. Answers self.old call.now (plain_reply told.0 told.1) self.new) }
-        ensures stopped { OnErr result (FindsNoMemory self.old call.now (early_refusal self.old call.now) self.new) }
+        ensures stopped { OnErr result (FindsNoMemory self.old call.now (refusal_before_depth self.old call.now) self.new) }
     {
-        match self.untimely(call) {
+        match self.refusal_by_moment(call) {
             Some(status) => Ok((status, Out::Nothing)),
             None => self.value_call(call),
         }
@@ -266,8 +266,8 @@ impl State {
 
     /// Why the call comes at a wrong moment, if it does: it is guarded or registers, and an exception is pending or the teardown
     /// has started.
-    fn untimely(&self, call: &Call) -> Option<Status>
-        ensures { result ≡ moment_refusal self.now call.now }
+    fn refusal_by_moment(&self, call: &Call) -> Option<Status>
+        ensures { result ≡ refusal_by_moment self.now call.now }
     {
         let pending = self.exceptions.pending().is_some();
         let tearing = self.is_tearing();
@@ -316,7 +316,7 @@ impl State {
         requires numbers { HasNumbersFor self.old }
         requires hooked { IsHooked self.old }
         ensures ok { IfOk result (λ reply. AnswersInTime self.old call.now reply self.new) }
-        ensures stopped { OnErr result (FindsNoMemory self.old call.now (timely_refusal self.old call.now) self.new) }
+        ensures stopped { OnErr result (FindsNoMemory self.old call.now (refusal_by_state self.old call.now) self.new) }
     {
         match group {
             CallGroup::OnScopes => self.answer_on_scopes(call),
@@ -345,7 +345,7 @@ impl State {
         requires group { group_of call.now ≡ CallGroup.OnScopes }
         requires numbers { HasNumbersFor self.old }
         ensures ok { IfOk result (λ reply. AnswersInTime self.old call.now reply self.new) }
-        ensures stopped { OnErr result (FindsNoMemory self.old call.now (timely_refusal self.old call.now) self.new) }
+        ensures stopped { OnErr result (FindsNoMemory self.old call.now (refusal_by_state self.old call.now) self.new) }
     {
         match call {
             Call::OpenHandleScope => self.open_scope(ScopeKind::Plain),
@@ -391,7 +391,7 @@ impl State {
         requires values { self.old.heap.made + most_names + 8 < 2 ^ 48 }
         requires handles { self.old.heap.handles < 2 ^ 62 }
         ensures ok { IfOk result (λ told. AnswersInTime self.old call.now (plain_reply told.0 told.1) self.new) }
-        ensures stopped { OnErr result (FindsNoMemory self.old call.now (timely_refusal self.old call.now) self.new) }
+        ensures stopped { OnErr result (FindsNoMemory self.old call.now (refusal_by_state self.old call.now) self.new) }
     {
         let addon = self.caller();
         value_step(
@@ -434,7 +434,7 @@ impl State {
         requires scopes { length self.old.heap.scope_numbers < 2 ^ 62 }
         ensures ok { IfOk result (λ reply. AnswersInTime self.old (opening_call kind) reply self.new) }
         ensures err { OnErr result (self.new ≡ self.old) }
-        ensures unrefused { OnErr result (timely_refusal self.old (opening_call kind) ≡ None) }
+        ensures unrefused { OnErr result (refusal_by_state self.old (opening_call kind) ≡ None) }
     {
         let scope = self.scopes.open_scope(kind)?;
         Ok(Reply::plain(Status::Ok, Out::Scope(scope)))

@@ -30,7 +30,7 @@ use Rattle.napi_types.specs.environment.Changes.{opening_change, gone_change, in
 use Rattle.napi_types.specs.environment.Ends.{uncut_call_end, end_change, outermost_end_change}
 use Rattle.napi_types.specs.environment.Entering.{enter_change, asked_change}
 use Rattle.napi_types.specs.environment.Environment.{Environment, TsfnRoot}
-use Rattle.napi_types.specs.environment.Refusals.{refusal, early_refusal, depth_refusal}
+use Rattle.napi_types.specs.environment.Refusals.{refusal, refusal_before_depth, depth_refusal}
 use Rattle.napi_types.specs.environment.Registry.{Registry, registry_of, with_registry}
 use Rattle.napi_types.specs.environment.SharedCalls.{with_root, without_root, after_shared}
 use Rattle.napi_types.specs.environment.Tickets.{hooks_left}
@@ -123,7 +123,7 @@ below-limit : (e : Environment) (receiver : Option HandleId) (f : HandleId) (arg
     → length e.frames + 1 ≤ most_frames
 below-limit e receiver f args h =
     let c : Call = call.CallFunction receiver f args in
-    let no_refusal : depth_refusal e.frames c ≡ None = none-last (early_refusal e c) (depth_refusal e.frames c) h in
+    let no_refusal : depth_refusal e.frames c ≡ None = none-last (refusal_before_depth e c) (depth_refusal e.frames c) h in
     let shallow : nat_le most_frames (length e.frames) ≡ false = not-when (nat_le most_frames (length e.frames)) status.PendingException no_refusal in
     omega (arith, leb-false most_frames (length e.frames) shallow)
 

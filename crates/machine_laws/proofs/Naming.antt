@@ -13,7 +13,7 @@ use Rattle.napi_types.specs.parts.HeapRefusals.{refusal_in}
 use Rattle.napi_types.specs.parts.ReferenceRefusals.{reference_refusal}
 use Rattle.napi_types.specs.environment.Environment.{Environment}
 use Rattle.napi_types.specs.environment.HookCalls.{hook_refusal}
-use Rattle.napi_types.specs.environment.Refusals.{timely_refusal}
+use Rattle.napi_types.specs.environment.Refusals.{refusal_by_state}
 use Rattle.napi_types.proofs.plain.Lists.{option_or-none}
 use Rattle.machine_laws.specs.CallLaws.{attached_refusal, NamesHooksAlone, ReferencesAreNamedAlone, HooksAreNamedAlone}
 
@@ -29,7 +29,7 @@ named-alone e c = record { alone = inl refl; order = sym (option_or-none (refusa
 
 -- a call that nothing but the references can refuse
 on-references : (e : Environment) (c : Call) → hook_refusal (caller_of e.frames) e.hooks c ≡ None → attached_refusal e c ≡ None
-    → timely_refusal e c ≡ reference_refusal e.references c → NamesHooksAlone e c
+    → refusal_by_state e c ≡ reference_refusal e.references c → NamesHooksAlone e c
 on-references e c unhooked unattached alone =
     let r : Option Status = reference_refusal e.references c in
     let within : option_or r (attached_refusal e c) ≡ r = ap (option_or r) unattached ∙ option_or-none r in

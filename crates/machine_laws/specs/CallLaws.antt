@@ -32,15 +32,15 @@ use Rattle.napi_types.specs.environment.Changes.{call_change}
 use Rattle.napi_types.specs.environment.Environment.{Environment}
 use Rattle.napi_types.specs.environment.Groups.{call_group}
 use Rattle.napi_types.specs.environment.HookCalls.{hook_refusal}
-use Rattle.napi_types.specs.environment.Moments.{moment_refusal}
+use Rattle.napi_types.specs.environment.Moments.{refusal_by_moment}
 use Rattle.napi_types.specs.environment.ReferenceCalls.{referring_refusal}
-use Rattle.napi_types.specs.environment.Refusals.{timely_refusal, early_refusal, depth_refusal, refusal}
+use Rattle.napi_types.specs.environment.Refusals.{refusal_by_state, refusal_before_depth, depth_refusal, refusal}
 use Rattle.napi_types.specs.environment.WrapCalls.{attachment_refusal}
 
 -- the call is refused as one at a wrong moment, or else as an invalid argument; it tells nothing, and leaves the environment as it was
 pub record RefusesArgument (e : Environment) (c : Call) : Type 0 where
-  pub refusal : refusal e c ≡ Some (unwrap_or (moment_refusal e c) status.InvalidArg)
-  pub reply : (n : ℕ) → (answer e c n).reply ≡ plain (unwrap_or (moment_refusal e c) status.InvalidArg) out.Nothing
+  pub refusal : refusal e c ≡ Some (unwrap_or (refusal_by_moment e c) status.InvalidArg)
+  pub reply : (n : ℕ) → (answer e c n).reply ≡ plain (unwrap_or (refusal_by_moment e c) status.InvalidArg) out.Nothing
   pub after : (n : ℕ) → (answer e c n).after ≡ e
 
 -- each call that names a handle which no open scope holds is refused, whatever else it names
@@ -155,8 +155,8 @@ EveryCallHasARow = (e : Environment) (c : Call) (n : ℕ) → length (filter is_
 -- pending
 pub record RefusalsChangeNothing (e : Environment) (c : Call) (n : ℕ) (s : Status) : Type 0 where
   pub reply : refusal e c ≡ Some s → (answer e c n).reply ≡ plain s out.Nothing
-  pub after : early_refusal e c ≡ Some s → (answer e c n).after ≡ e
-  pub depth : early_refusal e c ≡ None → depth_refusal e.frames c ≡ Some s → (answer e c n).after ≡ with_depth_error e
+  pub after : refusal_before_depth e c ≡ Some s → (answer e c n).after ≡ e
+  pub depth : refusal_before_depth e c ≡ None → depth_refusal e.frames c ≡ Some s → (answer e c n).after ≡ with_depth_error e
 
 abbrev pub RefusedCallsChangeNothing : Type 0
 RefusedCallsChangeNothing = (e : Environment) (c : Call) (n : ℕ) (s : Status) → RefusalsChangeNothing e c n s
@@ -181,8 +181,10 @@ attached_refusal e c = option_or (refusal_in e.texts e.heap c) (option_or (refer
 -- a call on hooks names no reference, no handle and no text, so it shows nowhere either whether the hooks are asked before all that or after it
 pub record NamesHooksAlone (e : Environment) (c : Call) : Type 0 where
   pub alone : (hook_refusal (caller_of e.frames) e.hooks c ≡ None) ⊎ ((references_of c ≡ []) × (handles_of c ≡ []) × (texts_of c ≡ []))
-  pub first : timely_refusal e c ≡ option_or (hook_refusal (caller_of e.frames) e.hooks c) (option_or (reference_refusal e.references c) (attached_refusal e c))
-  pub order : timely_refusal e c ≡ option_or (option_or (reference_refusal e.references c) (attached_refusal e c)) (hook_refusal (caller_of e.frames) e.hooks c)
+  pub first : refusal_by_state e c ≡ option_or (hook_refusal (caller_of e.frames) e.hooks c)
+      (option_or (reference_refusal e.references c) (attached_refusal e c))
+  pub order : refusal_by_state e c ≡ option_or (option_or (reference_refusal e.references c) (attached_refusal e c))
+      (hook_refusal (caller_of e.frames) e.hooks c)
 
 abbrev pub HooksAreNamedAlone : Type 0
 HooksAreNamedAlone = (e : Environment) (c : Call) → NamesHooksAlone e c

@@ -2,7 +2,7 @@
 ghost use Rattle.std.specs.Prelude.{◌≡◌, ◌+◌, ◌<◌, ◌^◌, length, None, IfOk, OnErr};
 ghost use Rattle.napi_types.specs.declared.call.Call.TheVariants as call_of;
 ghost use Rattle.napi_types.specs.plain.CallFacts.{group_of};
-ghost use Rattle.napi_types.specs.environment.Refusals.{timely_refusal};
+ghost use Rattle.napi_types.specs.environment.Refusals.{refusal_by_state};
 ghost use Rattle.env_core.specs.State.{AnswersInTime, FindsNoMemory, HasNumbersFor};
 
 use super::State;
@@ -17,7 +17,7 @@ impl State {
         requires group { group_of call.now ≡ CallGroup.OnWraps }
         requires numbers { HasNumbersFor self.old }
         ensures ok { IfOk result (λ reply. AnswersInTime self.old call.now reply self.new) }
-        ensures stopped { OnErr result (FindsNoMemory self.old call.now (timely_refusal self.old call.now) self.new) }
+        ensures stopped { OnErr result (FindsNoMemory self.old call.now (refusal_by_state self.old call.now) self.new) }
     {
         match call {
             Call::Wrap(object, payload, finalizer, hint, wanted) => {
@@ -53,7 +53,7 @@ impl State {
         requires tickets { length self.old.book < 2 ^ 62 }
         ensures ok { IfOk result (λ reply. AnswersInTime self.old (call_of.Wrap object payload finalizer hint wanted) reply self.new) }
         ensures err { OnErr result (self.new ≡ self.old) }
-        ensures unrefused { OnErr result (timely_refusal self.old (call_of.Wrap object payload finalizer hint wanted) ≡ None) }
+        ensures unrefused { OnErr result (refusal_by_state self.old (call_of.Wrap object payload finalizer hint wanted) ≡ None) }
     {
         let value = match target(&self.store, &self.scopes, object, Attachable::Objects) {
             Ok(value) => value,
@@ -94,7 +94,7 @@ impl State {
         requires tickets { length self.old.book < 2 ^ 62 }
         ensures ok { IfOk result (λ reply. AnswersInTime self.old (call_of.AddFinalizer object payload entry hint wanted) reply self.new) }
         ensures err { OnErr result (self.new ≡ self.old) }
-        ensures unrefused { OnErr result (timely_refusal self.old (call_of.AddFinalizer object payload entry hint wanted) ≡ None) }
+        ensures unrefused { OnErr result (refusal_by_state self.old (call_of.AddFinalizer object payload entry hint wanted) ≡ None) }
     {
         let value = match target(&self.store, &self.scopes, object, Attachable::Objects) {
             Ok(value) => value,
@@ -158,7 +158,7 @@ impl State {
     ) -> Result<Reply, NoMemory>
         ensures ok { IfOk result (λ reply. AnswersInTime self.old (call_of.TypeTagObject object lower upper) reply self.new) }
         ensures err { OnErr result (self.new ≡ self.old) }
-        ensures unrefused { OnErr result (timely_refusal self.old (call_of.TypeTagObject object lower upper) ≡ None) }
+        ensures unrefused { OnErr result (refusal_by_state self.old (call_of.TypeTagObject object lower upper) ≡ None) }
     {
         let value = match target(
             &self.store,

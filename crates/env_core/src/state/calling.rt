@@ -12,7 +12,7 @@ ghost use Rattle.napi_types.specs.parts.NamedNumbers.{is_known};
 ghost use Rattle.napi_types.specs.parts.Properties.{most_names};
 ghost use Rattle.napi_types.specs.parts.Scopes.{gives};
 ghost use Rattle.napi_types.specs.environment.Calls.{with_depth_error};
-ghost use Rattle.napi_types.specs.environment.Refusals.{early_refusal};
+ghost use Rattle.napi_types.specs.environment.Refusals.{refusal_before_depth};
 ghost use Rattle.env_values.specs.SeenValues.{HoldsLive};
 ghost use Rattle.env_core.specs.Looking.{IsLookedUp};
 ghost use Rattle.env_core.specs.State.{CallsFunction, EntersCall, BeginsScopes, SameScopes};
@@ -52,7 +52,7 @@ impl State {
         requires handles { self.old.heap.handles < 2 ^ 62 }
         ensures ok { IfOk result (λ called. CallsFunction self.old receiver function args.now called self.new) }
         ensures err { OnErr result (self.new ≡ self.old) }
-        ensures unrefused { OnErr result (early_refusal self.old (call_of.CallFunction receiver function args.now) ≡ None) }
+        ensures unrefused { OnErr result (refusal_before_depth self.old (call_of.CallFunction receiver function args.now) ≡ None) }
     {
         let callee = look_up(&self.store, &self.scopes, function);
         let reply = match self.why_not_calling(receiver, &callee, args) {
@@ -75,10 +75,10 @@ impl State {
         args: &Args,
     ) -> Option<Status>
         requires { IsLookedUp self.now.heap callee.now }
-        ensures { result ≡ early_refusal self.now (call_of.CallFunction receiver callee.now.handle args.now) }
+        ensures { result ≡ refusal_before_depth self.now (call_of.CallFunction receiver callee.now.handle args.now) }
     {
         let call = Call::CallFunction(receiver, callee.handle, *args);
-        if let Some(status) = self.untimely(&call) {
+        if let Some(status) = self.refusal_by_moment(&call) {
             return Some(status);
         }
         if self.knows_all(receiver, callee, args) && is_function_body(callee.body) {
@@ -151,7 +151,7 @@ impl State {
     ) -> Result<Called, NoMemory>
         requires standing { self.old.frames ≢ [] }
         requires seen { IsLookedUp self.old.heap callee.now }
-        requires accepted { early_refusal self.old (call_of.CallFunction receiver callee.now.handle args.now) ≡ None }
+        requires accepted { refusal_before_depth self.old (call_of.CallFunction receiver callee.now.handle args.now) ≡ None }
         requires room { length self.old.frames < most_frames }
         requires within { asks_made self.old.frames < most_asks }
         requires handles { self.old.heap.handles < 2 ^ 62 }

@@ -2,7 +2,7 @@
 ghost use Rattle.std.specs.Prelude.{◌≡◌, None, IfOk, OnErr};
 ghost use Rattle.napi_types.specs.declared.call.Call.TheVariants as call_of;
 ghost use Rattle.napi_types.specs.plain.CallFacts.{group_of};
-ghost use Rattle.napi_types.specs.environment.Refusals.{timely_refusal};
+ghost use Rattle.napi_types.specs.environment.Refusals.{refusal_by_state};
 ghost use Rattle.env_core.specs.State.{AnswersInTime, FindsNoMemory};
 
 use super::State;
@@ -16,7 +16,7 @@ impl State {
     pub(super) fn answer_on_collection(&mut self, call: &Call) -> Result<Reply, NoMemory>
         requires group { group_of call.now ≡ CallGroup.OnCollection }
         ensures ok { IfOk result (λ reply. AnswersInTime self.old call.now reply self.new) }
-        ensures stopped { OnErr result (FindsNoMemory self.old call.now (timely_refusal self.old call.now) self.new) }
+        ensures stopped { OnErr result (FindsNoMemory self.old call.now (refusal_by_state self.old call.now) self.new) }
     {
         match call {
             Call::Collect => self.collect(),
@@ -30,7 +30,7 @@ impl State {
     pub(super) fn collect(&mut self) -> Result<Reply, NoMemory>
         ensures ok { IfOk result (λ reply. AnswersInTime self.old call_of.Collect reply self.new) }
         ensures err { OnErr result (self.new ≡ self.old) }
-        ensures unrefused { OnErr result (timely_refusal self.old call_of.Collect ≡ None) }
+        ensures unrefused { OnErr result (refusal_by_state self.old call_of.Collect ≡ None) }
     {
         let roots = roots_of(
             self.alloc,

@@ -4,7 +4,7 @@ ghost use Rattle.napi_types.specs.declared.call.Call.TheVariants as call_of;
 ghost use Rattle.napi_types.specs.plain.CallFacts.{group_of};
 ghost use Rattle.napi_types.specs.parts.NamedNumbers.{is_known};
 ghost use Rattle.napi_types.specs.parts.Properties.{most_names};
-ghost use Rattle.napi_types.specs.environment.Refusals.{timely_refusal};
+ghost use Rattle.napi_types.specs.environment.Refusals.{refusal_by_state};
 ghost use Rattle.env_core.specs.State.{AnswersInTime, FindsNoMemory, HasNumbersFor};
 
 use super::State;
@@ -19,7 +19,7 @@ impl State {
         requires group { group_of call.now ≡ CallGroup.OnExceptions }
         requires numbers { HasNumbersFor self.old }
         ensures ok { IfOk result (λ reply. AnswersInTime self.old call.now reply self.new) }
-        ensures stopped { OnErr result (FindsNoMemory self.old call.now (timely_refusal self.old call.now) self.new) }
+        ensures stopped { OnErr result (FindsNoMemory self.old call.now (refusal_by_state self.old call.now) self.new) }
     {
         match call {
             Call::Throw(handle) => Ok(self.throw(*handle)),
@@ -53,7 +53,7 @@ impl State {
         requires { self.old.heap.made + most_names + 8 < 2 ^ 48 }
         ensures ok { IfOk result (λ reply. AnswersInTime self.old (call_of.ThrowError code message) reply self.new) }
         ensures err { OnErr result (self.new ≡ self.old) }
-        ensures unrefused { OnErr result (timely_refusal self.old (call_of.ThrowError code message) ≡ None) }
+        ensures unrefused { OnErr result (refusal_by_state self.old (call_of.ThrowError code message) ≡ None) }
     {
         if !self.knows(code, message) {
             return Ok(Reply::plain(Status::InvalidArg, Out::Nothing));
@@ -89,7 +89,7 @@ impl State {
         requires handles { self.old.heap.handles < 2 ^ 62 }
         ensures ok { IfOk result (λ reply. AnswersInTime self.old call_of.GetAndClearLastException reply self.new) }
         ensures err { OnErr result (self.new ≡ self.old) }
-        ensures unrefused { OnErr result (timely_refusal self.old call_of.GetAndClearLastException ≡ None) }
+        ensures unrefused { OnErr result (refusal_by_state self.old call_of.GetAndClearLastException ≡ None) }
     {
         let value = or_undefined(&self.store, self.exceptions.pending());
         let handle = self.scopes.issue(value)?;

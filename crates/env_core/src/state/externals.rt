@@ -3,7 +3,7 @@ ghost use Rattle.std.specs.Prelude.{◌≡◌, ◌≢◌, ◌+◌, ◌<◌, ◌^
 ghost use Rattle.napi_types.specs.declared.call.Call.TheVariants as call_of;
 ghost use Rattle.napi_types.specs.plain.CallFacts.{group_of};
 ghost use Rattle.napi_types.specs.parts.Properties.{most_names};
-ghost use Rattle.napi_types.specs.environment.Refusals.{timely_refusal};
+ghost use Rattle.napi_types.specs.environment.Refusals.{refusal_by_state};
 ghost use Rattle.env_core.specs.State.{AnswersInTime, FindsNoMemory, HasNumbersFor};
 
 use super::State;
@@ -18,7 +18,7 @@ impl State {
         requires group { group_of call.now ≡ CallGroup.OnExternals }
         requires numbers { HasNumbersFor self.old }
         ensures ok { IfOk result (λ reply. AnswersInTime self.old call.now reply self.new) }
-        ensures stopped { OnErr result (FindsNoMemory self.old call.now (timely_refusal self.old call.now) self.new) }
+        ensures stopped { OnErr result (FindsNoMemory self.old call.now (refusal_by_state self.old call.now) self.new) }
     {
         match call {
             Call::CreateExternal(payload, finalizer, hint) => {
@@ -43,7 +43,7 @@ impl State {
         requires tickets { length self.old.book < 2 ^ 62 }
         ensures ok { IfOk result (λ reply. AnswersInTime self.old (call_of.CreateExternal payload finalizer hint) reply self.new) }
         ensures err { OnErr result (self.new ≡ self.old) }
-        ensures unrefused { OnErr result (timely_refusal self.old (call_of.CreateExternal payload finalizer hint) ≡ None) }
+        ensures unrefused { OnErr result (refusal_by_state self.old (call_of.CreateExternal payload finalizer hint) ≡ None) }
     {
         let asked = self.finalizer_if(payload, finalizer, hint);
         self.registry.reserve_finalizer(asked)?;

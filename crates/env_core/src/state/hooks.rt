@@ -3,7 +3,7 @@ ghost use Rattle.std.specs.Prelude.{◌≡◌, ◌<◌, ◌^◌, length, None, I
 ghost use Rattle.napi_types.specs.declared.call.Call.TheVariants as call_of;
 ghost use Rattle.napi_types.specs.plain.CallFacts.{group_of};
 ghost use Rattle.napi_types.specs.environment.Hooked.{IsHooked};
-ghost use Rattle.napi_types.specs.environment.Refusals.{timely_refusal};
+ghost use Rattle.napi_types.specs.environment.Refusals.{refusal_by_state};
 ghost use Rattle.env_core.specs.State.{AnswersInTime, FindsNoMemory, HasNumbersFor};
 
 use super::State;
@@ -17,7 +17,7 @@ impl State {
         requires numbers { HasNumbersFor self.old }
         requires hooked { IsHooked self.old }
         ensures ok { IfOk result (λ reply. AnswersInTime self.old call.now reply self.new) }
-        ensures stopped { OnErr result (FindsNoMemory self.old call.now (timely_refusal self.old call.now) self.new) }
+        ensures stopped { OnErr result (FindsNoMemory self.old call.now (refusal_by_state self.old call.now) self.new) }
     {
         match call {
             Call::AddEnvCleanupHook(entry, argument) => {
@@ -42,7 +42,7 @@ impl State {
         requires tickets { length self.old.book < 2 ^ 62 }
         ensures ok { IfOk result (λ reply. AnswersInTime self.old (call_of.AddEnvCleanupHook entry argument) reply self.new) }
         ensures err { OnErr result (self.new ≡ self.old) }
-        ensures unrefused { OnErr result (timely_refusal self.old (call_of.AddEnvCleanupHook entry argument) ≡ None) }
+        ensures unrefused { OnErr result (refusal_by_state self.old (call_of.AddEnvCleanupHook entry argument) ≡ None) }
     {
         let addon = self.caller();
         if self.registry.find_hook(addon, entry, argument).is_some() {

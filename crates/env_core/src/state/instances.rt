@@ -2,7 +2,7 @@
 ghost use Rattle.std.specs.Prelude.{◌≡◌, ◌<◌, ◌^◌, length, None, IfOk, OnErr, IsSome};
 ghost use Rattle.napi_types.specs.declared.call.Call.TheVariants as call_of;
 ghost use Rattle.napi_types.specs.plain.CallFacts.{group_of};
-ghost use Rattle.napi_types.specs.environment.Refusals.{timely_refusal};
+ghost use Rattle.napi_types.specs.environment.Refusals.{refusal_by_state};
 ghost use Rattle.env_core.specs.State.{AnswersInTime, FindsNoMemory, HasNumbersFor};
 
 use super::State;
@@ -15,7 +15,7 @@ impl State {
         requires group { group_of call.now ≡ CallGroup.OnInstances }
         requires numbers { HasNumbersFor self.old }
         ensures ok { IfOk result (λ reply. AnswersInTime self.old call.now reply self.new) }
-        ensures stopped { OnErr result (FindsNoMemory self.old call.now (timely_refusal self.old call.now) self.new) }
+        ensures stopped { OnErr result (FindsNoMemory self.old call.now (refusal_by_state self.old call.now) self.new) }
     {
         match call {
             Call::SetInstanceData(payload, finalizer, hint) => {
@@ -39,7 +39,7 @@ impl State {
         ensures ok { IfOk result (λ reply. AnswersInTime self.old (call_of.SetInstanceData payload finalizer hint) reply self.new) }
         ensures err { OnErr result (self.new ≡ self.old) }
         ensures growing { OnErr result (IsSome finalizer) }
-        ensures unrefused { OnErr result (timely_refusal self.old (call_of.SetInstanceData payload finalizer hint) ≡ None) }
+        ensures unrefused { OnErr result (refusal_by_state self.old (call_of.SetInstanceData payload finalizer hint) ≡ None) }
     {
         let addon = self.caller();
         let asked = self.finalizer_if(payload, finalizer, hint);

@@ -7,7 +7,7 @@ ghost use Rattle.napi_types.specs.plain.Numbers.{is_ten_or_later};
 ghost use Rattle.napi_types.specs.plain.Replies.{plain};
 ghost use Rattle.napi_types.specs.parts.Bodies.{is_referable as is_referable_body};
 ghost use Rattle.napi_types.specs.parts.Heap.{handle_body};
-ghost use Rattle.napi_types.specs.environment.Refusals.{timely_refusal};
+ghost use Rattle.napi_types.specs.environment.Refusals.{refusal_by_state};
 ghost use Rattle.env_core.specs.State.{AnswersInTime, FindsNoMemory, HasNumbersFor};
 
 use super::State;
@@ -22,7 +22,7 @@ impl State {
         requires group { group_of call.now ≡ CallGroup.OnReferences }
         requires numbers { HasNumbersFor self.old }
         ensures ok { IfOk result (λ reply. AnswersInTime self.old call.now reply self.new) }
-        ensures stopped { OnErr result (FindsNoMemory self.old call.now (timely_refusal self.old call.now) self.new) }
+        ensures stopped { OnErr result (FindsNoMemory self.old call.now (refusal_by_state self.old call.now) self.new) }
     {
         match call {
             Call::CreateReference(handle, count) => self.create_reference(*handle, *count),
@@ -44,7 +44,7 @@ impl State {
         requires references { length self.old.references.issued + 2 < 2 ^ 48 }
         ensures ok { IfOk result (λ reply. AnswersInTime self.old (call_of.CreateReference handle count) reply self.new) }
         ensures err { OnErr result (self.new ≡ self.old) }
-        ensures unrefused { OnErr result (timely_refusal self.old (call_of.CreateReference handle count) ≡ None) }
+        ensures unrefused { OnErr result (refusal_by_state self.old (call_of.CreateReference handle count) ≡ None) }
     {
         if !self.may_refer_to(handle, count) {
             return Ok(Reply::plain(Status::InvalidArg, Out::Nothing));
@@ -56,7 +56,7 @@ impl State {
 
     /// Whether a reference may be made to the value of a handle: an open scope holds it, and the value is of a kind for that.
     fn may_refer_to(&self, handle: HandleId, count: u32) -> bool
-        ensures { unless result Status.InvalidArg ≡ timely_refusal self.now (call_of.CreateReference handle count) }
+        ensures { unless result Status.InvalidArg ≡ refusal_by_state self.now (call_of.CreateReference handle count) }
     {
         self.holds(handle) && self.is_referable(handle)
     }
@@ -106,7 +106,7 @@ impl State {
         requires handles { self.old.heap.handles < 2 ^ 62 }
         ensures ok { IfOk result (λ reply. AnswersInTime self.old (call_of.GetReferenceValue reference) reply self.new) }
         ensures err { OnErr result (self.new ≡ self.old) }
-        ensures unrefused { OnErr result (timely_refusal self.old (call_of.GetReferenceValue reference) ≡ None) }
+        ensures unrefused { OnErr result (refusal_by_state self.old (call_of.GetReferenceValue reference) ≡ None) }
     {
         match self.references.value(reference) {
             Ok(Some(value)) => {

@@ -7,7 +7,7 @@ ghost use Rattle.napi_types.specs.parts.Bodies.{function_addon, function_entry, 
 ghost use Rattle.napi_types.specs.parts.Frames.{asks_made, duty_of, is_hub_duty, most_asks};
 ghost use Rattle.napi_types.specs.parts.Heap.{handle_body};
 ghost use Rattle.napi_types.specs.environment.Ends.{outermost_end_change};
-ghost use Rattle.napi_types.specs.environment.Refusals.{refusal, timely_refusal};
+ghost use Rattle.napi_types.specs.environment.Refusals.{refusal, refusal_by_state};
 ghost use Rattle.napi_types.specs.environment.SharedCalls.{after_delivery, after_shared, shared_call_of, target_of, with_root};
 ghost use Rattle.env_core.specs.TsfnRooting.{HasRootPlace};
 ghost use Rattle.env_core.specs.Sharing.{is_rooting, wants_root as wants_root_of};
@@ -56,7 +56,7 @@ impl State {
         requires { is_shared call.now ≡ true }
         ensures { result ≡ refusal self.now call.now }
     {
-        if let Some(status) = self.untimely(call) {
+        if let Some(status) = self.refusal_by_moment(call) {
             return Some(status);
         }
         match call {
@@ -76,7 +76,7 @@ impl State {
         count: u32,
     ) -> Option<Status>
         ensures { (maximum : ℕ) (finalizer : Option ℕ) (context : ℕ)
-            → result ≡ timely_refusal self.now (call_of.CreateThreadsafeFunction function entry maximum count finalizer context) }
+            → result ≡ refusal_by_state self.now (call_of.CreateThreadsafeFunction function entry maximum count finalizer context) }
     {
         let known = self.holds_if(function);
         let callable = match function {

@@ -29,7 +29,7 @@ use Rattle.napi_types.specs.environment.Changes.{number_of, may_call, call_chang
 use Rattle.napi_types.specs.environment.Ends.{end_change}
 use Rattle.napi_types.specs.environment.Entering.{asked_change, enter_change}
 use Rattle.napi_types.specs.environment.Environment.{Environment}
-use Rattle.napi_types.specs.environment.Refusals.{refusal, early_refusal, depth_refusal}
+use Rattle.napi_types.specs.environment.Refusals.{refusal, refusal_before_depth, depth_refusal}
 use Rattle.napi_types.specs.environment.SharedCalls.{given_of, shared_entry}
 use Rattle.napi_types.specs.hub.GivenSteps.{answer_unless_given, work_number, is_timely, is_fresh_work}
 use Rattle.napi_types.specs.hub.Hub.{Hub}
@@ -75,7 +75,7 @@ call-tells e c n local d called makes ok = by (refusal e c) refl
     by : (o : Option Status) → refusal e c ≡ o → is_some (call_change e c n).entry.reply.made ≡ true
     by None told = ap is_some (unrefused-makes e c n (ap makes_duty same ∙ makes) local told)
     by (Some s) told =
-        let zero : s ≡ status.Ok = sym (refused-status e c n s (early_refusal e c) (depth_refusal e.frames c) told) ∙ ok in
+        let zero : s ≡ status.Ok = sym (refused-status e c n s (refusal_before_depth e c) (depth_refusal e.frames c) told) ∙ ok in
         absurd (no-refusal-accepts e c (told ∙ ap (λ t. Some t) zero))
 
 asked-tells : (e : Environment) (c : Call) (n : ℕ) → is_shared c ≡ false → TellsItsDuty (asked_change e c n).entry

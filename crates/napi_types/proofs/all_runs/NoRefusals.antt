@@ -36,9 +36,9 @@ use Rattle.napi_types.specs.parts.WrapRefusals.{wrap_kinds, wrap_refusal}
 use Rattle.napi_types.specs.environment.Environment.{Environment}
 use Rattle.napi_types.specs.environment.Groups.{call_group}
 use Rattle.napi_types.specs.environment.HookCalls.{hook_refusal}
-use Rattle.napi_types.specs.environment.Moments.{is_tearing, guard_status, guard_refusal, registering_refusal, moment_refusal}
+use Rattle.napi_types.specs.environment.Moments.{is_tearing, guard_status, guard_refusal, registering_refusal, refusal_by_moment}
 use Rattle.napi_types.specs.environment.ReferenceCalls.{referring_refusal}
-use Rattle.napi_types.specs.environment.Refusals.{group_refusal, timely_refusal, early_refusal, depth_refusal, refusal}
+use Rattle.napi_types.specs.environment.Refusals.{group_refusal, refusal_by_state, refusal_before_depth, depth_refusal, refusal}
 use Rattle.napi_types.specs.environment.WrapCalls.{attachment_refusal}
 use Rattle.napi_types.specs.all_runs.OnceLaws.{NoRefusalAccepts}
 
@@ -191,15 +191,15 @@ by-guard true ten = refl
 by-guard false true = refl
 by-guard false false = refl
 
-by-moment : (e : Environment) (c : Call) → Refuses (moment_refusal e c)
+by-moment : (e : Environment) (c : Call) → Refuses (refusal_by_moment e c)
 by-moment e c =
     either (guard_refusal e c) (registering_refusal e c) (by-when (is_guarded c && (is_some e.pending || is_tearing e.phase)) (guard_status e) (by-guard (is_some e.pending) (is_ten_or_later e.version)))
     (by-when (is_registering c && is_tearing e.phase) status.GenericFailure refl)
 
 refusals-refuse : (e : Environment) (c : Call) → Refuses (refusal e c)
 refusals-refuse e c =
-    either (early_refusal e c) (depth_refusal e.frames c)
-    (either (moment_refusal e c) (timely_refusal e c) (by-moment e c)
+    either (refusal_before_depth e c) (depth_refusal e.frames c)
+    (either (refusal_by_moment e c) (refusal_by_state e c) (by-moment e c)
     (either (refusal_in e.texts e.heap c) (group_refusal e c)
     (either (unknown_refusal e.texts e.heap c) (option_or (kind_refusal e.heap c) (row_refusal e.heap c))
     (by-unless (is_known e.texts e.heap c) status.InvalidArg refl)

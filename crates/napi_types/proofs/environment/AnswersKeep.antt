@@ -29,8 +29,8 @@ use Rattle.napi_types.specs.environment.Changes.{call_change}
 use Rattle.napi_types.specs.environment.Environment.{Environment}
 use Rattle.napi_types.specs.environment.HookCalls.{unhooked}
 use Rattle.napi_types.specs.environment.JournalRoom.{reserved_journal}
-use Rattle.napi_types.specs.environment.Moments.{is_tearing, guard_refusal, registering_refusal, moment_refusal}
-use Rattle.napi_types.specs.environment.Refusals.{timely_refusal, early_refusal, group_refusal}
+use Rattle.napi_types.specs.environment.Moments.{is_tearing, guard_refusal, registering_refusal, refusal_by_moment}
+use Rattle.napi_types.specs.environment.Refusals.{refusal_by_state, refusal_before_depth, group_refusal}
 use Rattle.napi_types.specs.environment.Registering.{withdrawing}
 use Rattle.napi_types.proofs.plain.Maps.{length-with_record}
 use Rattle.napi_types.proofs.plain.Lists.{length-changed, not-when, none-first, none-last}
@@ -41,7 +41,8 @@ use Rattle.napi_types.proofs.environment.Effects as does
 use Rattle.napi_types.proofs.environment.Effects.{Effect, registered-by, effect-of}
 use Rattle.napi_types.proofs.environment.Told.{MayReply, told_plain, told_made, told_dropped, effect-told, answer-told}
 
--- what a call keeps of a heap: how many frames have scopes. It issues one number of each kind at most, and makes as many values as an array of names has, with the array
+-- what a call keeps of a heap: how many frames have scopes. It issues one number of each kind at most, and makes as many values as an array of names has, with
+-- the array
 pub record HeapKeeps (old new : Heap) : Type 0 where
   pub depth : length new.scopes ≡ length old.scopes
   pub handles : new.handles ≤ old.handles + 1
@@ -201,9 +202,9 @@ does-keeps c e _ none (does.sets {d} i before on) =
     record { course = k.course; frames = k.frames; heap = k.heap; references = k.references; book = k.book }
 
 -- a call that nothing refuses early is not refused by what it reads in the heap
-unrefused : (e : Environment) (c : Call) → early_refusal e c ≡ None → refusal_in e.texts e.heap c ≡ None
+unrefused : (e : Environment) (c : Call) → refusal_before_depth e c ≡ None → refusal_in e.texts e.heap c ≡ None
 unrefused e c h =
-    let timely : timely_refusal e c ≡ None = none-last (moment_refusal e c) (timely_refusal e c) h in
+    let timely : refusal_by_state e c ≡ None = none-last (refusal_by_moment e c) (refusal_by_state e c) h in
     none-first (refusal_in e.texts e.heap c) (group_refusal e c) timely
 
 pub answer-keeps : (e : Environment) (c : Call) (n : ℕ) → KeepsTheRest e (answer e c n)
@@ -229,7 +230,7 @@ pub answer-makes : (e : Environment) (c : Call) (n : ℕ) → MakesFor c (answer
 answer-makes e c n = told-makes c (answer e c n).reply (answer-told e c n)
 
 -- in the teardown a call that registers is refused, so no duty is made
-torn : (e : Environment) (c : Call) → is_tearing e.phase ≡ true → is_registering c ≡ true → moment_refusal e c ≡ None → ⊥
+torn : (e : Environment) (c : Call) → is_tearing e.phase ≡ true → is_registering c ≡ true → refusal_by_moment e c ≡ None → ⊥
 torn e c tearing registers none =
     let late : registering_refusal e c ≡ None = none-last (guard_refusal e c) (registering_refusal e c) none in
     let is : registering_refusal e c ≡ Some status.GenericFailure = rw (registers, tearing) refl in
@@ -244,11 +245,11 @@ pub torn-makes-none : (e : Environment) (c : Call) (n : ℕ) → is_tearing e.ph
 torn-makes-none e c n tearing =
     answer-by e c n (λ a. a.reply.made ≡ None) (λ s. refl) (λ s. refl)
     (λ is. not-some _ (λ some.
-    torn e c tearing ((told-makes c (effect e c n).reply (effect-told e c n)).registers some) (none-first (moment_refusal e c) (timely_refusal e c) is)))
+    torn e c tearing ((told-makes c (effect e c n).reply (effect-told e c n)).registers some) (none-first (refusal_by_moment e c) (refusal_by_state e c) is)))
 
 -- A CALL'S ENTRY
--- what a call of this entry keeps: the addons, the opening, the init frames that began, the phase, and how many frames stand; one of them has made one ask more. The
--- book changes in one of the ways of a call, and there are places for the duty that is made
+-- what a call of this entry keeps: the addons, the opening, the init frames that began, the phase, and how many frames stand; one of them has made one ask
+-- more. The book changes in one of the ways of a call, and there are places for the duty that is made
 pub record KeepsButAsk (c : Call) (old : Environment) (r : Reply) (new : Environment) : Type 0 where
   pub course : course_of new ≡ course_of old
   pub depth : length new.frames ≡ length old.frames

@@ -18,14 +18,14 @@ use Rattle.napi_types.specs.environment.Changes.{Change, call_change}
 use Rattle.napi_types.specs.environment.Ends.{call_end_with, uncut_call_end, outermost_end_change, end_change_by, end_change}
 use Rattle.napi_types.specs.environment.Entering.{enter_change, function_change, asked_change}
 use Rattle.napi_types.specs.environment.Environment.{Environment}
-use Rattle.napi_types.specs.environment.Refusals.{early_refusal, depth_refusal, refusal}
+use Rattle.napi_types.specs.environment.Refusals.{refusal_before_depth, depth_refusal, refusal}
 
 -- a call is refused, refused at the depth limit, or has its effect
 pub answer-by : (e : Environment) (c : Call) (n : ℕ) (P : Answer Environment → Type 0) → ((s : Status) → P (refuses s e))
-    → ((s : Status) → P (refuses s (with_depth_error e))) → (early_refusal e c ≡ None → P (effect e c n)) → P (answer e c n)
-answer-by e c n P refused deep taken = at (early_refusal e c) (depth_refusal e.frames c) refl
+    → ((s : Status) → P (refuses s (with_depth_error e))) → (refusal_before_depth e c ≡ None → P (effect e c n)) → P (answer e c n)
+answer-by e c n P refused deep taken = at (refusal_before_depth e c) (depth_refusal e.frames c) refl
   where
-    at : (early limit : Option Status) → early_refusal e c ≡ early → P (answer_unless_deep e c n early limit)
+    at : (early limit : Option Status) → refusal_before_depth e c ≡ early → P (answer_unless_deep e c n early limit)
     at None None is = taken is
     at (Some s) None is = refused s
     at (Some s) (Some t) is = refused s

@@ -14,7 +14,7 @@ use Rattle.napi_types.specs.parts.Heap.{handle_body}
 use Rattle.napi_types.specs.parts.HeapRefusals.{row_refusal}
 use Rattle.napi_types.specs.parts.NamedNumbers.{is_known}
 use Rattle.napi_types.specs.environment.Environment.{Environment}
-use Rattle.napi_types.specs.environment.Moments.{is_tearing, moment_refusal}
+use Rattle.napi_types.specs.environment.Moments.{is_tearing, refusal_by_moment}
 use Rattle.napi_types.specs.environment.Refusals.{refusal}
 use Rattle.napi_types.specs.environment.SharedCalls.{shared_entry, shared_call_of, handed_entry, SharedRefusals}
 
@@ -60,8 +60,8 @@ created e f entry maximum count finalizer context =
     let c : Call = call.CreateThreadsafeFunction f entry maximum count finalizer context in
     let known : Option Status = unless (is_known e.texts e.heap c) status.InvalidArg in
     let row : Option Status = row_refusal e.heap c in
-    or-three (option_or (moment_refusal e c) (option_or (option_or known row) None)) None
-    (or-three (moment_refusal e c) (option_or (option_or known row) None) (failed (is_tearing e.phase))
+    or-three (option_or (refusal_by_moment e c) (option_or (option_or known row) None)) None
+    (or-three (refusal_by_moment e c) (option_or (option_or known row) None) (failed (is_tearing e.phase))
     (or-three (option_or known row) None (or-three known row (unless-invalid (is_known e.texts e.heap c)) (row-three e f entry maximum count finalizer context)) none)) none
 
 pub shared-refusals : SharedRefusals

@@ -13,7 +13,7 @@ use Rattle.napi_types.specs.parts.InstanceData.{instance_ticket}
 use Rattle.napi_types.specs.environment.Calls.{effect, answer_unless_deep}
 use Rattle.napi_types.specs.environment.Environment.{Environment}
 use Rattle.napi_types.specs.environment.MadeTickets.{UnrefusedCallsMakeTheirTicket}
-use Rattle.napi_types.specs.environment.Refusals.{early_refusal, depth_refusal}
+use Rattle.napi_types.specs.environment.Refusals.{refusal_before_depth, depth_refusal}
 use Rattle.napi_types.specs.environment.Registering.{registered_only, withdrawing}
 use Rattle.napi_types.proofs.parts.Books.{length-changed_where}
 
@@ -45,4 +45,4 @@ makes-ticket e _ n makes local = cc
 
 pub unrefused-makes : UnrefusedCallsMakeTheirTicket
 unrefused-makes e c n makes local none =
-    ap (λ (a : Answer Environment). a.reply.made) (has-effect e c n (early_refusal e c) (depth_refusal e.frames c) none) ∙ makes-ticket e c n makes local
+    ap (λ (a : Answer Environment). a.reply.made) (has-effect e c n (refusal_before_depth e c) (depth_refusal e.frames c) none) ∙ makes-ticket e c n makes local

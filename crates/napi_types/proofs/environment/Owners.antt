@@ -39,9 +39,9 @@ use Rattle.napi_types.specs.environment.Ends.{end_change}
 use Rattle.napi_types.specs.environment.Entering.{enter_change, asked_change}
 use Rattle.napi_types.specs.environment.Environment.{Environment}
 use Rattle.napi_types.specs.environment.HookCalls.{unhooked}
-use Rattle.napi_types.specs.environment.Moments.{moment_refusal}
+use Rattle.napi_types.specs.environment.Moments.{refusal_by_moment}
 use Rattle.napi_types.specs.environment.Owners.{BelongsTo, IsOwned}
-use Rattle.napi_types.specs.environment.Refusals.{timely_refusal, early_refusal, depth_refusal, refusal, group_refusal}
+use Rattle.napi_types.specs.environment.Refusals.{refusal_by_state, refusal_before_depth, depth_refusal, refusal, group_refusal}
 use Rattle.napi_types.specs.environment.Registering.{withdrawing}
 use Rattle.napi_types.specs.environment.Registry.{registry_of}
 use Rattle.napi_types.specs.environment.Roots.{reach}
@@ -194,8 +194,8 @@ call_change-owned n e c k stands o =
 -- a call that nothing refuses is not refused by its row
 pub row-unrefused : (e : Environment) (c : Call) → refusal e c ≡ None → row_refusal e.heap c ≡ None
 row-unrefused e c h =
-    let early : early_refusal e c ≡ None = none-first (early_refusal e c) (depth_refusal e.frames c) h in
-    let timely : timely_refusal e c ≡ None = none-last (moment_refusal e c) (timely_refusal e c) early in
+    let early : refusal_before_depth e c ≡ None = none-first (refusal_before_depth e c) (depth_refusal e.frames c) h in
+    let timely : refusal_by_state e c ≡ None = none-last (refusal_by_moment e c) (refusal_by_state e c) early in
     let within : refusal_in e.texts e.heap c ≡ None = none-first (refusal_in e.texts e.heap c) (group_refusal e c) timely in
     let later : option_or (kind_refusal e.heap c) (row_refusal e.heap c) ≡ None = none-last (unknown_refusal e.texts e.heap c) _ within in
     none-last (kind_refusal e.heap c) (row_refusal e.heap c) later

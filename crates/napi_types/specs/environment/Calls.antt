@@ -9,7 +9,7 @@ use Rattle.napi_types.specs.plain.Texts.{depth_text}
 use Rattle.napi_types.specs.environment.Environment.{Environment}
 use Rattle.napi_types.specs.environment.ExceptionCalls.{with_thrown_error}
 use Rattle.napi_types.specs.environment.Groups.{call_group_of}
-use Rattle.napi_types.specs.environment.Refusals.{early_refusal, depth_refusal}
+use Rattle.napi_types.specs.environment.Refusals.{refusal_before_depth, depth_refusal}
 
 -- what an accepted call answers and leaves, as its group tells it
 abbrev pub effect : Environment → Call → ℕ → Answer Environment
@@ -33,4 +33,4 @@ answer_unless_deep e c n None (Some deep) = refuses deep (with_depth_error e)
 -- a call of the environment that is refused answers the first refusal that applies, every other one its result; an accepted call of a function has none
 -- here, since it enters a frame, whose end has its reply
 abbrev pub answer : Environment → Call → ℕ → Answer Environment
-answer e c n = answer_unless_deep e c n (early_refusal e c) (depth_refusal e.frames c)
+answer e c n = answer_unless_deep e c n (refusal_before_depth e c) (depth_refusal e.frames c)

@@ -37,5 +37,5 @@ abbrev pub registering_refusal : Environment → Call → Option Status
 registering_refusal e c = when (is_registering c && is_tearing e.phase) status.GenericFailure
 
 -- the first of both that applies
-abbrev pub moment_refusal : Environment → Call → Option Status
-moment_refusal e c = option_or (guard_refusal e c) (registering_refusal e c)
+abbrev pub refusal_by_moment : Environment → Call → Option Status
+refusal_by_moment e c = option_or (guard_refusal e c) (registering_refusal e c)

@@ -10,15 +10,15 @@ use Rattle.napi_types.specs.parts.Frames.{Frame, most_frames}
 use Rattle.napi_types.specs.parts.HeapRefusals.{refusal_in}
 use Rattle.napi_types.specs.environment.Environment.{Environment}
 use Rattle.napi_types.specs.environment.Groups.{call_group_of}
-use Rattle.napi_types.specs.environment.Moments.{moment_refusal}
+use Rattle.napi_types.specs.environment.Moments.{refusal_by_moment}
 
 -- why the group of a call refuses it beside what the heap tells: for a reference, for what is attached to a value, or for a hook
 abbrev pub group_refusal : Environment → Call → Option Status
 group_refusal e c = (call_group_of c).refuses e c
 
 -- the first refusal that applies to a call that comes at a right moment: the first that the heap tells, or else its group's
-abbrev pub timely_refusal : Environment → Call → Option Status
-timely_refusal e c = option_or (refusal_in e.texts e.heap c) (group_refusal e c)
+abbrev pub refusal_by_state : Environment → Call → Option Status
+refusal_by_state e c = option_or (refusal_in e.texts e.heap c) (group_refusal e c)
 
 -- THE DEPTH LIMIT
 -- no function is called where as many frames stand as may
@@ -27,9 +27,9 @@ depth_refusal fs (call.CallFunction _ _ _) = when (nat_le most_frames (length fs
 depth_refusal fs _ = None
 
 -- the first of the points before the depth limit that applies: whether the call comes at a wrong moment is asked first
-abbrev pub early_refusal : Environment → Call → Option Status
-early_refusal e c = option_or (moment_refusal e c) (timely_refusal e c)
+abbrev pub refusal_before_depth : Environment → Call → Option Status
+refusal_before_depth e c = option_or (refusal_by_moment e c) (refusal_by_state e c)
 
 -- the first of all points that applies
 abbrev pub refusal : Environment → Call → Option Status
-refusal e c = option_or (early_refusal e c) (depth_refusal e.frames c)
+refusal e c = option_or (refusal_before_depth e c) (depth_refusal e.frames c)

@@ -13,8 +13,8 @@ use Rattle.napi_types.specs.parts.NamedNumbers.{handles_of, texts_of, unknown_re
 use Rattle.napi_types.specs.parts.Scopes.{gives}
 use Rattle.napi_types.specs.environment.Calls.{answer_unless_deep}
 use Rattle.napi_types.specs.environment.Environment.{Environment}
-use Rattle.napi_types.specs.environment.Moments.{moment_refusal}
-use Rattle.napi_types.specs.environment.Refusals.{early_refusal, depth_refusal, group_refusal, timely_refusal}
+use Rattle.napi_types.specs.environment.Moments.{refusal_by_moment}
+use Rattle.napi_types.specs.environment.Refusals.{refusal_before_depth, depth_refusal, group_refusal, refusal_by_state}
 use Rattle.machine_laws.specs.CallLaws.{RefusedCallsChangeNothing, RefusesUnknownHandles, RefusesUnknownInEachRow, TakesKnownHandles}
 use Rattle.machine_laws.proofs.Naming.{fails-all, passes-all, named-alone, hooks-alone}
 use Rattle.machine_laws.proofs.calls.refusals.Goals as goal
@@ -31,7 +31,7 @@ same-after e c n s (Some d) = refl
 
 law : RefusedCallsChangeNothing
 law e c n s = record {
-  reply = reply-of e c n (early_refusal e c) (depth_refusal e.frames c) s;
+  reply = reply-of e c n (refusal_before_depth e c) (depth_refusal e.frames c) s;
   after = λ h. ap (λ o. (answer_unless_deep e c n o (depth_refusal e.frames c)).after) h ∙ same-after e c n s (depth_refusal e.frames c);
   depth = λ none deep. ap (λ o. (answer_unless_deep e c n o (depth_refusal e.frames c)).after) none ∙ ap (λ o. (answer_unless_deep e c n None o).after) deep;
 }
@@ -59,7 +59,7 @@ after-of e c n (Some m) (Some d) s = refl
 
 -- a handle is unknown, so the first refusal of one that comes at a right moment is that of its arguments
 unknown-first : (e : Environment) (c : Call) (h : ℕ) → has_number h (handles_of c) ≡ true → gives e.heap.scopes h ≡ None
-    → timely_refusal e c ≡ Some status.InvalidArg
+    → refusal_by_state e c ≡ Some status.InvalidArg
 unknown-first e c h here none =
     let all : list_all (λ n. is_some (gives e.heap.scopes n)) (handles_of c) ≡ false =
     fails-all (λ n. is_some (gives e.heap.scopes n)) (handles_of c) h here (ap is_some none) in
@@ -69,12 +69,14 @@ unknown-first e c h here none =
 
 unknown : RefusesUnknownHandles
 unknown e c h here none =
-    let first : timely_refusal e c ≡ Some status.InvalidArg = unknown-first e c h here none in
+    let first : refusal_by_state e c ≡ Some status.InvalidArg = unknown-first e c h here none in
     let deep : Option Status = depth_refusal e.frames c in
     record {
-      refusal = ap (λ s. option_or (option_or (moment_refusal e c) s) deep) first ∙ first-of (moment_refusal e c) deep status.InvalidArg;
-      reply = λ n. ap (λ s. (answer_unless_deep e c n (option_or (moment_refusal e c) s) deep).reply) first ∙ early-reply e c n (moment_refusal e c) deep status.InvalidArg;
-      after = λ n. ap (λ s. (answer_unless_deep e c n (option_or (moment_refusal e c) s) deep).after) first ∙ after-of e c n (moment_refusal e c) deep status.InvalidArg;
+      refusal = ap (λ s. option_or (option_or (refusal_by_moment e c) s) deep) first ∙ first-of (refusal_by_moment e c) deep status.InvalidArg;
+      reply = λ n. ap (λ s. (answer_unless_deep e c n (option_or (refusal_by_moment e c) s) deep).reply) first ∙ early-reply e c n
+          (refusal_by_moment e c) deep status.InvalidArg;
+      after = λ n. ap (λ s. (answer_unless_deep e c n (option_or (refusal_by_moment e c) s) deep).after) first ∙ after-of e c n
+          (refusal_by_moment e c) deep status.InvalidArg;
     }
 
 -- a handle is among those of a call that names it alone

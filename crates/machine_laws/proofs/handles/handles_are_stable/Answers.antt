@@ -8,8 +8,8 @@ use Rattle.napi_types.specs.plain.Lists.{has_number}
 use Rattle.napi_types.specs.parts.HeapRefusals.{kind_refusal, row_refusal, refusal_in}
 use Rattle.napi_types.specs.parts.NamedNumbers.{handles_of, is_known, unknown_refusal}
 use Rattle.napi_types.specs.parts.Scopes.{gives}
-use Rattle.napi_types.specs.environment.Moments.{moment_refusal}
-use Rattle.napi_types.specs.environment.Refusals.{group_refusal, timely_refusal, early_refusal, depth_refusal}
+use Rattle.napi_types.specs.environment.Moments.{refusal_by_moment}
+use Rattle.napi_types.specs.environment.Refusals.{group_refusal, refusal_by_state, refusal_before_depth, depth_refusal}
 use Rattle.napi_types.proofs.plain.Lists.{none-first, none-last, not-unless}
 use Rattle.machine_laws.specs.HandleLaws.{AcceptedHandlesAreOpen}
 use Rattle.machine_laws.proofs.StableHandles.{handles-are-stable}
@@ -26,8 +26,8 @@ of-all p n (m ∷ ns) all there = by (m == n) refl there (of-all p n ns (and_par
 
 law : AcceptedHandlesAreOpen
 law e c h accepted there =
-    let early : early_refusal e c ≡ None = none-first (early_refusal e c) (depth_refusal e.frames c) accepted in
-    let timely : timely_refusal e c ≡ None = none-last (moment_refusal e c) (timely_refusal e c) early in
+    let early : refusal_before_depth e c ≡ None = none-first (refusal_before_depth e c) (depth_refusal e.frames c) accepted in
+    let timely : refusal_by_state e c ≡ None = none-last (refusal_by_moment e c) (refusal_by_state e c) early in
     let within : refusal_in e.texts e.heap c ≡ None = none-first (refusal_in e.texts e.heap c) (group_refusal e c) timely in
     let own : Option Status = option_or (kind_refusal e.heap c) (row_refusal e.heap c) in
     let unknown : unknown_refusal e.texts e.heap c ≡ None = none-first (unknown_refusal e.texts e.heap c) own within in

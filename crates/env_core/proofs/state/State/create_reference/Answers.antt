@@ -1,7 +1,7 @@
 use Rattle.std.proofs.Common.{◌≡◌, None, sym, subst}
 use Rattle.napi_types.specs.declared.call.Call.TheVariants as call
 use Rattle.napi_types.specs.parts.Graph.{IsLive}
-use Rattle.napi_types.specs.environment.Refusals.{timely_refusal}
+use Rattle.napi_types.specs.environment.Refusals.{refusal_by_state}
 use Rattle.napi_reference.specs.ReferencePlaces.{map_of}
 use Rattle.napi_reference.proofs.KeepingReferences.{AllValues-with_reference}
 use Rattle.env_core.specs.Referring.{RefersToLive}
@@ -30,7 +30,7 @@ invariant_of-self-2 c =
 pub returns-clause-ok : goal.returns-clause-ok
 returns-clause-ok c =
     let s = c.self.inside in
-    let none : timely_refusal (the_view s) (call.CreateReference c.args.handle c.args.count) ≡ None =
+    let none : refusal_by_state (the_view s) (call.CreateReference c.args.handle c.args.count) ≡ None =
     sym (rw (← c.self.view_is) at c.if-not-may_refer_to.ensures) in
     rw (← c.self.view_is)
     (rw c.plain-2.ensures
