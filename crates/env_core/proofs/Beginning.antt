@@ -23,7 +23,7 @@ use Rattle.napi_types.specs.parts.References.{ReferenceMap}
 use Rattle.napi_types.specs.parts.Scopes.{OpenHandle, held_by_frames}
 use Rattle.napi_types.specs.environment.Ends.{duty_ended, without_innermost_frame, outermost_end_change}
 use Rattle.napi_types.specs.environment.Environment.{Environment, TsfnRoot}
-use Rattle.napi_types.specs.environment.Hooked.{is_late, IsHooked}
+use Rattle.napi_types.specs.environment.Hooked.{is_from_finals_on, IsHooked}
 use Rattle.napi_types.specs.environment.Registry.{Registry}
 use Rattle.napi_types.specs.environment.Tickets.{hooks_left, ticket_change}
 use Rattle.napi_types.proofs.plain.Found.{same-self}
@@ -122,7 +122,7 @@ begun-delivered frames left book f d none is of hub =
     subst P (sym is) (begun-alone frames book f d none of (untold book d hub))
 
 -- before `finals` the ticket of the hook that was added last is registered
-pub last-registered : (e : Environment) (n : ℕ) → IsHooked e → is_late e.phase ≡ false → Some n ≡ option_map (λ h. h.ticket) (last_hook e.hooks)
+pub last-registered : (e : Environment) (n : ℕ) → IsHooked e → is_from_finals_on e.phase ≡ false → Some n ≡ option_map (λ h. h.ticket) (last_hook e.hooks)
     → IsUnder (PassesTest is_registered) e.book n
 last-registered e n hooked early is = by (last_hook e.hooks) refl is
   where
@@ -130,7 +130,8 @@ last-registered e n hooked early is = by (last_hook e.hooks) refl is
     by None last is = let no : ⊥ = cc in absurd no
     by (Some h) last is = under-ticket is_registered e.book n (ap (is_at is_registered e.book) (cc) ∙ hook-registered e h hooked early last)
 
-pub last-waits : (e : Environment) → IsHooked e → is_late e.phase ≡ false → IfSome (last_hook e.hooks) (λ h. is_at is_registered e.book h.ticket ≡ true)
+pub last-waits : (e : Environment) → IsHooked e → is_from_finals_on e.phase ≡ false
+    → IfSome (last_hook e.hooks) (λ h. is_at is_registered e.book h.ticket ≡ true)
 last-waits e hooked early = by (last_hook e.hooks) refl
   where
     by : (o : Option Hook) → last_hook e.hooks ≡ o → IfSome o (λ h. is_at is_registered e.book h.ticket ≡ true)

@@ -30,7 +30,7 @@ use Rattle.napi_types.specs.environment.Changes.{call_change, call_entry, number
 use Rattle.napi_types.specs.environment.Ends.{end_change_by, outermost_end_change, end_change}
 use Rattle.napi_types.specs.environment.Entering.{is_entering}
 use Rattle.napi_types.specs.environment.Environment.{Environment}
-use Rattle.napi_types.specs.environment.Hooked.{is_late, IsHooked}
+use Rattle.napi_types.specs.environment.Hooked.{is_from_finals_on, IsHooked}
 use Rattle.napi_types.specs.environment.JournalRoom.{gone_place, reserved_journal}
 use Rattle.napi_types.specs.environment.Refusals.{refusal, refusal_before_depth, depth_refusal}
 use Rattle.napi_types.specs.environment.Tickets.{ticket_change, ticket_in, next_ticket}
@@ -184,7 +184,7 @@ next-may e n r hooked next there = by e.phase refl next
 
     hook : e.phase ≡ phase.Hooks → option_map (λ h. h.ticket) (last_hook e.hooks) ≡ Some n → is_registered r.state ≡ true
     hook at is =
-        let u : IsUnder (PassesTest is_registered) e.book n = last-registered e n hooked (ap is_late at) (sym is) in
+        let u : IsUnder (PassesTest is_registered) e.book n = last-registered e n hooked (ap is_from_finals_on at) (sym is) in
         let same : r ≡ u.registration = cc in
         ap (λ (q : Registration). is_registered q.state) same ∙ u.holds
 

@@ -17,7 +17,7 @@ use Rattle.napi_types.specs.environment.Moments.{is_tearing}
 use Rattle.napi_types.specs.environment.Owners.{IsOwned}
 use Rattle.napi_types.specs.environment.Refusals.{refusal}
 use Rattle.napi_types.specs.environment.SharedCalls.{target_of, target_unless}
-use Rattle.napi_types.specs.hub.GivenSteps.{is_looped, is_failure, is_timely}
+use Rattle.napi_types.specs.hub.GivenSteps.{is_looped, is_failure, fits_stage}
 use Rattle.napi_types.specs.hub.Hub.{Stage, IsStageOf}
 use Rattle.napi_types.specs.hub.HubCalls.{no_target}
 use Rattle.napi_types.proofs.plain.Lists.{none-first, not-unless}
@@ -61,9 +61,9 @@ allows true true failed fails = fails refl refl
 allows true false failed fails = refl
 allows false registers failed fails = refl
 
-pub is-timely : (e : Environment) (s : Stage) (c : SharedCall) → IsAwaited e c → IsStageOf e.phase s → IsTrue (is_timely s c.call c.refused)
+pub is-timely : (e : Environment) (s : Stage) (c : SharedCall) → IsAwaited e c → IsStageOf e.phase s → IsTrue (fits_stage s c.call c.refused)
 is-timely e s c w shows =
-    subst (λ (x : SharedCall). IsTrue (is_timely s c.call x.refused)) (sym w.handed)
+    subst (λ (x : SharedCall). IsTrue (fits_stage s c.call x.refused)) (sym w.handed)
     (allows (is_looped s) (is_registering c.call) (is_failure (refusal e c.call))
     (λ looped registers. torn-refused e c.call w.shared registers (torn e.phase s shows looped)))
 

@@ -23,7 +23,7 @@ use Rattle.napi_types.specs.parts.Works.{is_created, is_queued, is_deletable}
 use Rattle.napi_types.specs.environment.Changes.{may_call}
 use Rattle.napi_types.specs.environment.Environment.{Environment}
 use Rattle.napi_types.specs.environment.SharedCalls.{shared_call_of, handed_entry, after_shared}
-use Rattle.napi_types.specs.hub.GivenSteps.{is_timely, is_fresh_work, work_number, answer_unless_given}
+use Rattle.napi_types.specs.hub.GivenSteps.{fits_stage, is_fresh_work, work_number, answer_unless_given}
 use Rattle.napi_types.specs.hub.Hub.{Hub}
 use Rattle.napi_types.specs.hub.HubCalls.{hub_answer, unless_refused, on_function, tsfn_at, call_answer, called_answer}
 use Rattle.napi_types.specs.hub.HubStep.{HubStep, answered_step}
@@ -82,7 +82,7 @@ abbrev answer_to : Hub → SharedCall → Out → Option (Answer Hub)
 answer_to h s o = answer_unless_given h (given_by s) s.call (work_number o) s.refused
 
 abbrev handed_may : Hub → SharedCall → Out → Bool
-handed_may h s o = is_shared s.call && is_timely h.stage s.call s.refused && is_fresh_work h o
+handed_may h s o = is_shared s.call && fits_stage h.stage s.call s.refused && is_fresh_work h o
 
 pub reply-unframed : (h : Hub) (s : SharedCall) (r : Reply) → IsHubNext h (handed_entry s r) → tells_frame r.out ≡ false
 reply-unframed h s r next = by (answer_to h s r.out) (unless-given-unframed h (given_by s) s.call (work_number r.out) s.refused) next.entry next.may

@@ -18,7 +18,7 @@ use Rattle.napi_types.specs.parts.Book.{Registration, is_registered, is_due, is_
 use Rattle.napi_types.specs.parts.Frames.{frame_of_duty, begin_told}
 use Rattle.napi_types.specs.parts.Hooks.{Hook, last_hook}
 use Rattle.napi_types.specs.environment.Environment.{Environment}
-use Rattle.napi_types.specs.environment.Hooked.{is_late, StandsIn, IsHooked}
+use Rattle.napi_types.specs.environment.Hooked.{is_from_finals_on, StandsIn, IsHooked}
 use Rattle.napi_types.specs.runs.Machine.{Machine}
 use Rattle.napi_types.specs.runs.Run.{IsNext}
 use Rattle.napi_types.specs.runs.Setting.{final_of}
@@ -54,7 +54,7 @@ hook-cause e h r hooked last there =
 -- and where due tickets begin no hook is due
 no-hook-due : (m : Machine) (p : Phase) (n : ℕ) (r : Registration) → m.env.phase ≡ p → Orderly m → begins_due_tickets_in m.env p ≡ true → registration_at m.env.book n ≡ Some r
     → is_due r.state ≡ true → r.cause ≡ cause.Hook → ⊥
-no-hook-due m phase.Live n r here orderly begins there due why = none-due m.env n r orderly.hooked (ap is_late here) there why due
+no-hook-due m phase.Live n r here orderly begins there due why = none-due m.env n r orderly.hooked (ap is_from_finals_on here) there why due
 no-hook-due m phase.Finals n r here orderly begins there due why =
     let spent : is_owed r.state ≡ false = registered-holds IsSpent n m.env.book r there (orderly.spent (ap is_drained here)) why in
     let no : true ≡ false = sym (or_right (is_registered r.state) (is_due r.state) due) ∙ spent in

@@ -7,7 +7,7 @@ use Rattle.napi_types.specs.declared.entry.HostStep.TheVariants as host
 use Rattle.napi_types.specs.declared.entry.Phase.TheVariants as phase
 use Rattle.napi_types.specs.declared.entry.What.TheVariants as what
 use Rattle.napi_types.specs.parts.Book.{Book, Registration, is_registered, is_at, registration_at, lowest_due}
-use Rattle.napi_types.specs.environment.Hooked.{is_late}
+use Rattle.napi_types.specs.environment.Hooked.{is_from_finals_on}
 use Rattle.napi_types.specs.runs.Machine.{Machine}
 use Rattle.napi_types.specs.runs.Run.{IsNext, IsRunBy, final}
 use Rattle.napi_types.specs.runs.Setting.{opening_of, final_of}
@@ -58,7 +58,7 @@ pub gone-of-runs : GoneComesOnlyAfterFinals
 gone-of-runs s bs xs a x run next is =
     let m : Machine = final_of s bs xs in
     let last : (m.env.frames ≡ []) × (m.env.phase ≡ phase.Finals) = gone-last m a x next is in
-    let none : NoneRegistered m.env.book = (orderly-run s bs xs run).settled (ap is_late last.1) in
+    let none : NoneRegistered m.env.book = (orderly-run s bs xs run).settled (ap is_from_finals_on last.1) in
     record {
       phase = last.1;
       alone = last.0;

@@ -9,7 +9,7 @@ use Rattle.napi_types.specs.declared.entry.Out.TheVariants as out
 use Rattle.napi_types.specs.declared.entry.What.TheVariants as what
 use Rattle.napi_types.specs.parts.Book.{is_registered, is_at}
 use Rattle.napi_types.specs.parts.Duties.{AreNested}
-use Rattle.napi_types.specs.environment.Hooked.{is_late}
+use Rattle.napi_types.specs.environment.Hooked.{is_from_finals_on}
 use Rattle.napi_types.specs.runs.Run.{IsNext, IsRunBy}
 use Rattle.napi_types.specs.runs.Setting.{Setting, opening_of, final_of}
 use Rattle.machine_laws.specs.Choices.{BeginsLowest, BeginsLastHook, BeginsOfHub}
@@ -20,7 +20,8 @@ OnlyTheOutermostFrameHasADuty = (s : Setting) (bs : List Ask) (xs : List Entry) 
 
 -- from `finals` on no ticket is registered: each is due, has begun, has ended or was withdrawn
 abbrev pub NoneIsRegisteredFromFinalsOn : Type 0
-NoneIsRegisteredFromFinalsOn = (s : Setting) (bs : List Ask) (xs : List Entry) (n : ℕ) → IsRunBy (opening_of s) bs xs → is_late (final_of s bs xs).env.phase ≡ true
+NoneIsRegisteredFromFinalsOn =
+    (s : Setting) (bs : List Ask) (xs : List Entry) (n : ℕ) → IsRunBy (opening_of s) bs xs → is_from_finals_on (final_of s bs xs).env.phase ≡ true
     → is_at is_registered (final_of s bs xs).env.book n ≡ false
 
 -- a finalizer begins in the loop until exit is asked, or after `finals`, and is the lowest that is due: it waits while hooks begin. That of a thread-safe

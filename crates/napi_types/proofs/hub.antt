@@ -1,5 +1,6 @@
 -- On the hub: the cases of its step, what its steps keep, and its histories.
 pub mod ActorsGoOn
+pub mod CallsAfterTheDrain
 pub mod ClosingPools
 pub mod EarlyWorkers
 pub mod Executions
@@ -14,7 +15,6 @@ pub mod HubKeeps
 pub mod HubOwners
 pub mod HubPools
 pub mod HubRooms
-pub mod LateCalls
 pub mod MadeDuties
 pub mod Occupied
 pub mod OthersKeep

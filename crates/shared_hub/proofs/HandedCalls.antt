@@ -18,7 +18,7 @@ use Rattle.napi_types.specs.plain.Replies.{plain}
 use Rattle.napi_types.specs.plain.Room.{need}
 use Rattle.napi_types.specs.parts.Functions.{FunctionState, is_open, is_full_queue, call_status}
 use Rattle.napi_types.specs.parts.Pool.{WorkPool}
-use Rattle.napi_types.specs.hub.GivenSteps.{is_looped, is_timely, is_fresh_work, work_number, answer_unless_given}
+use Rattle.napi_types.specs.hub.GivenSteps.{is_looped, fits_stage, is_fresh_work, work_number, answer_unless_given}
 use Rattle.napi_types.specs.hub.HistoryRoom.{reserved_history}
 use Rattle.napi_types.specs.hub.Hub.{Hub, Stage, Before, Going, Looped, Drained, Final, new_hub, is_past_drain}
 use Rattle.napi_types.specs.hub.HubCalls.{hub_answer, tsfn_at, call_answer, called_answer, is_thread_call}
@@ -37,28 +37,29 @@ use Rattle.shared_hub.proofs.HubHistories.{ComesNext, comes-by, leads}
 
 -- THE ENVIRONMENT
 -- a call that the environment refuses leaves the hub as it was
-refused-comes : (h : Hub) (s : SharedCall) (r : Status) → IsTrue (is_shared s.call) → IsTrue (is_timely h.stage s.call s.refused) → s.refused ≡ Some r
+refused-comes : (h : Hub) (s : SharedCall) (r : Status) → IsTrue (is_shared s.call) → IsTrue (fits_stage h.stage s.call s.refused) → s.refused ≡ Some r
     → ComesNext h (handed_entry s (plain r out.Nothing)) h
 refused-comes h s r shared timely is =
     let x : Entry = handed_entry s (plain r out.Nothing) in
-    comes-by h x (record { entry = x; after = h; may = is_shared s.call && is_timely h.stage s.call s.refused && true })
-    (ap (λ o. answered_step h x (is_shared s.call && is_timely h.stage s.call s.refused && true) (answer_unless_given h (given_by s) s.call 0 o)) is)
+    comes-by h x (record { entry = x; after = h; may = is_shared s.call && fits_stage h.stage s.call s.refused && true })
+    (ap (λ o. answered_step h x (is_shared s.call && fits_stage h.stage s.call s.refused && true) (answer_unless_given h (given_by s) s.call 0 o)) is)
     refl (and-both _ true (and-both _ _ shared timely) refl)
 
 -- one that it does not refuse is answered
-answered-comes : (h : Hub) (s : SharedCall) (r : Reply) (left : Hub) → IsTrue (is_shared s.call) → IsTrue (is_timely h.stage s.call s.refused) → s.refused ≡ None
+answered-comes : (h : Hub) (s : SharedCall) (r : Reply) (left : Hub) → IsTrue (is_shared s.call) → IsTrue (fits_stage h.stage s.call s.refused)
+    → s.refused ≡ None
     → hub_answer h actor.Env (given_by s) s.call (work_number r.out) ≡ Some (record { reply = r; after = left }) → is_fresh_work h r.out ≡ true
     → ComesNext h (handed_entry s r) left
 answered-comes h s r left shared timely is told fresh =
     let x : Entry = handed_entry s r in
-    let may : Bool = is_shared s.call && is_timely h.stage s.call s.refused && is_fresh_work h r.out in
+    let may : Bool = is_shared s.call && fits_stage h.stage s.call s.refused && is_fresh_work h r.out in
     comes-by h x (record { entry = x; after = left; may = may })
     (ap (λ o. answered_step h x may (answer_unless_given h (given_by s) s.call (work_number r.out) o)) is ∙ ap (answered_step h x may) told)
     refl (and-both _ _ (and-both _ _ shared timely) fresh)
 
 -- the hub that has the works and functions before the call has those after it
 pub shared-comes : (h : Hub) (s : SharedCall) (r : Reply) (parts new : HubParts) (p : HubProgress) → AreFieldsOf h parts p → IsTrue (is_shared s.call)
-    → IsTrue (is_timely h.stage s.call s.refused) → RepliesTo parts s r new → ComesNext h (handed_entry s r) (hub_with new h)
+    → IsTrue (fits_stage h.stage s.call s.refused) → RepliesTo parts s r new → ComesNext h (handed_entry s r) (hub_with new h)
 shared-comes h s r parts new p f shared timely replies = by s.refused refl replies
   where
     same : hub_with parts h ≡ h
@@ -141,7 +142,7 @@ env-never-waits old new g c shared waits = by c shared (waits.none (new_hub 0 0)
 
 -- WHAT IS HANDED OVER
 -- a work is queued only before the loop ends, and so only while works may start
-pub timely-queues : (stage : Stage) (c : Call) (p : HubParts) → p.pool.closing ≡ is_past_drain stage → IsTrue (is_timely stage c None) → MayQueue c p
+pub timely-queues : (stage : Stage) (c : Call) (p : HubParts) → p.pool.closing ≡ is_past_drain stage → IsTrue (fits_stage stage c None) → MayQueue c p
 timely-queues stage (call.QueueAsyncWork w) p closes timely = closes ∙ by stage timely
   where
     by : (s : Stage) → IsTrue (not (is_looped s && true) || false) → is_past_drain s ≡ false
@@ -163,12 +164,12 @@ handed-makeable s names none held = by s.call (names ∙ ap (λ o. is_making_fun
     by _ target first = tt
 
 pub led-queues : (n : Numbers) (history : List Entry) (limit capacity : ℕ) (parts : HubParts) (p : HubProgress) (s : SharedCall) → IsKeptHistory n history limit capacity
-    → AreFieldsOf (led_by n history) parts p → s.refused ≡ None → IsTrue (is_timely (led_by n history).stage s.call s.refused) → MayQueue s.call parts
+    → AreFieldsOf (led_by n history) parts p → s.refused ≡ None → IsTrue (fits_stage (led_by n history).stage s.call s.refused) → MayQueue s.call parts
 led-queues n history limit capacity parts p s k f none timely =
     let h : Hub = led_by n history in
     timely-queues h.stage s.call parts
     (sym (ap (λ (q : WorkPool). q.closing) f.pool) ∙ pools-close-at-the-drain n.limits.history n.threads n.workers history h (leads n history limit capacity k))
-    (subst (λ o. IsTrue (is_timely h.stage s.call o)) none timely)
+    (subst (λ o. IsTrue (fits_stage h.stage s.call o)) none timely)
 
 -- WHERE NO MEMORY IS FOUND
 not-full : (limit a b : ℕ) → a + b ≤ limit → nat_lt limit (a + b) ≡ false

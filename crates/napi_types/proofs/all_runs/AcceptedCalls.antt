@@ -31,7 +31,7 @@ use Rattle.napi_types.specs.environment.Entering.{asked_change, enter_change}
 use Rattle.napi_types.specs.environment.Environment.{Environment}
 use Rattle.napi_types.specs.environment.Refusals.{refusal, refusal_before_depth, depth_refusal}
 use Rattle.napi_types.specs.environment.SharedCalls.{given_of, shared_entry}
-use Rattle.napi_types.specs.hub.GivenSteps.{answer_unless_given, work_number, is_timely, is_fresh_work}
+use Rattle.napi_types.specs.hub.GivenSteps.{answer_unless_given, work_number, fits_stage, is_fresh_work}
 use Rattle.napi_types.specs.hub.Hub.{Hub}
 use Rattle.napi_types.specs.hub.HubCalls.{call_answer, called_answer, tsfn_at, hub_answer, is_thread_call, unless_refused}
 use Rattle.napi_types.specs.hub.HubStep.{answered_step}
@@ -143,7 +143,7 @@ form-tells : (m : Machine) (t : Step) → Form m t → IsTrue t.may → TellsIts
 form-tells m _ (form.calls f fs stands c o local) may = asked-tells m.env c (number_of o) local
 form-tells m _ (form.shares f fs stands c o shared answers) may =
     let x : Entry = shared_entry m.env c o in
-    answered-tells m.hub x (is_shared c && is_timely m.hub.stage c (refusal m.env c) && is_fresh_work m.hub o) c
+    answered-tells m.hub x (is_shared c && fits_stage m.hub.stage c (refusal m.env c) && is_fresh_work m.hub o) c
     (answer_unless_given m.hub (given_of m.env c) c (work_number x.reply.out) (refusal m.env c)) refl
     (given-tells m.hub (given_of m.env c) c (work_number x.reply.out) (refusal m.env c) (no-refusal-accepts m.env c))
     (and-right (may_call m.env && not (is_full (room_of m c) c)) (hub_step m.hub x).may may)

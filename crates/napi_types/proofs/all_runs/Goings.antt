@@ -10,7 +10,7 @@ use Rattle.napi_types.specs.declared.entry.Phase.TheVariants as phase
 use Rattle.napi_types.specs.plain.Entries.{host_entry}
 use Rattle.napi_types.specs.parts.Book.{Registration, TicketState, registration_at, lowest_due, is_at, is_due, may_begin_in}
 use Rattle.napi_types.specs.parts.Hooks.{Hook, last_hook}
-use Rattle.napi_types.specs.environment.Hooked.{is_late, IsHooked}
+use Rattle.napi_types.specs.environment.Hooked.{is_from_finals_on, IsHooked}
 use Rattle.napi_types.specs.hub.Hub.{Stage, Before, Going, Looped, Drained, Final, stage_after, IsStageOf}
 use Rattle.napi_types.specs.hub.HubEvents.{begin_step, close_step, finish_step, delivery_entry, is_moving}
 use Rattle.napi_types.specs.hub.HubMoves.{HubMove, Delivers, Closes, Finishes, hub_move, idle_reason, is_idle, is_quiet, is_spent}
@@ -83,7 +83,7 @@ live-may m false None lowest here far alone = going-may m (hub_move m.hub) refl 
 hooks-may : (m : Machine) (o : Option Hook) → last_hook m.env.hooks ≡ o → IsHooked m.env → m.env.phase ≡ phase.Hooks → m.hub.stage ≡ Looped → m.hub.standing ≡ None
     → May m (option_or (option_map Tickets (option_map (λ (h : Hook). h.ticket) o)) (hub_choice_at m.hub (waiting_hooks m.env) Looped))
 hooks-may m (Some h) last hooked here far alone =
-    ticket-may phase.Hooks m h.ticket here (hook-registered m.env h hooked (ap is_late here) last)
+    ticket-may phase.Hooks m h.ticket here (hook-registered m.env h hooked (ap is_from_finals_on here) last)
 hooks-may m None last hooked here far alone = great m host.Drain Looped far alone refl
 
 drained-may : (m : Machine) (o : Option HubMove) → hub_move m.hub ≡ o → m.hub.stage ≡ Drained → m.hub.standing ≡ None → May m (option_or (option_map Moves o) (finals_choice m.hub))

@@ -37,7 +37,7 @@ use Rattle.napi_types.specs.runs.Machine.{Machine}
 use Rattle.napi_types.specs.runs.Run.{IsRunBy, after, final, IsNext}
 use Rattle.napi_types.specs.runs.Setting.{Setting, final_of, opening_of}
 use Rattle.napi_types.specs.runs.Step.{Step, by_hub, ticket_step, move_step, event_step, call_step_on, end_step_on, other_step, step}
-use Rattle.napi_types.specs.environment.Hooked.{is_late}
+use Rattle.napi_types.specs.environment.Hooked.{is_from_finals_on}
 use Rattle.napi_types.proofs.plain.Conditions.{and-right, not-true}
 use Rattle.napi_types.proofs.parts.Books.{owed-begun, NoneRegistered, none-owed_tickets}
 use Rattle.napi_types.proofs.environment.AnswersKeep.{SameCourse, course_of, course-parts, local-counted}
@@ -68,7 +68,7 @@ pub record Roomy (Enough : Type 0) (l : Limits) (m : Machine) : Type 0 where
   pub opened : is_init m.env.phase ≡ false → m.env.opened ≡ true
   pub inits : is_init m.env.phase ≡ false → nat_lt m.env.inits m.env.addons ≡ false
   -- once `finals` has come no ticket is registered, and in the end no frame stands and none is to come
-  pub settled : is_late m.env.phase ≡ true → NoneRegistered m.env.book
+  pub settled : is_from_finals_on m.env.phase ≡ true → NoneRegistered m.env.book
   pub bare : m.env.phase ≡ phase.Gone → m.env.frames ≡ []
   pub spent : m.env.phase ≡ phase.Gone → owed_tickets m.env.book ≡ 0
 
@@ -81,7 +81,8 @@ same-others d e same = rw (same.opened, same.phase, same.addons, same.inits) ref
 
 -- a step that leaves the phase as it is
 stays : (Enough : Type 0) (l : Limits) (m n : Machine) → Roomy Enough l m → n.limits ≡ m.limits → n.hub.stage ≡ m.hub.stage → SameCourse m.env n.env
-    → (Enough → n.journal_length + reserved_journal n.env ≤ l.journal) → (is_late m.env.phase ≡ true → NoneRegistered n.env.book) → m.env.phase ≢ phase.Gone
+    → (Enough → n.journal_length + reserved_journal n.env ≤ l.journal) → (is_from_finals_on m.env.phase ≡ true → NoneRegistered n.env.book)
+    → m.env.phase ≢ phase.Gone
     → Roomy Enough l n
 stays Enough l m n r limits stage course journal settled never = record {
   limits = limits ∙ r.limits;
@@ -89,7 +90,7 @@ stays Enough l m n r limits stage course journal settled never = record {
   stage = still-in-phase m n course.phase stage r.stage;
   opened = λ p. course.opened ∙ r.opened (ap is_init (sym course.phase) ∙ p);
   inits = λ p. rw (course.inits, course.addons) (r.inits (ap is_init (sym course.phase) ∙ p));
-  settled = λ p. settled (ap is_late (sym course.phase) ∙ p);
+  settled = λ p. settled (ap is_from_finals_on (sym course.phase) ∙ p);
   bare = λ p. absurd (never (sym course.phase ∙ p));
   spent = λ p. absurd (never (sym course.phase ∙ p));
 }
@@ -287,7 +288,7 @@ own-room Enough l m _ _ e f (choices.due_at_end n lowest) r h =
     ticket-room Enough l m n (registration_at m.env.book n) refl f (not-gone m.env phase.Finals e (λ q. cc)) r h
 own-room Enough l m _ _ e f (choices.ends lowest) r h =
     let j : Enough → m.journal_length + (one_if (not m.env.opened) + 1 + 2 * (m.env.addons - m.env.inits) + 0 + 2 * owed_tickets m.env.book) ≤ l.journal = λ enough. rw (e, f) at (r.journal enough) in
-    let settled : NoneRegistered m.env.book = r.settled (ap is_late e) in
+    let settled : NoneRegistered m.env.book = r.settled (ap is_from_finals_on e) in
     record {
       limits = r.limits;
       journal = λ enough. rw f (gone-fits m.journal_length (one_if (not m.env.opened)) (2 * (m.env.addons - m.env.inits)) (owed_tickets m.env.book) l.journal (j enough));

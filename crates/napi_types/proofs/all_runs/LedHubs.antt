@@ -25,7 +25,7 @@ use Rattle.napi_types.specs.environment.Changes.{may_call}
 use Rattle.napi_types.specs.environment.Ends.{end_change}
 use Rattle.napi_types.specs.environment.Environment.{Environment}
 use Rattle.napi_types.specs.environment.SharedCalls.{given_of, shared_entry}
-use Rattle.napi_types.specs.hub.GivenSteps.{is_timely, is_fresh_work, work_number, answer_unless_given}
+use Rattle.napi_types.specs.hub.GivenSteps.{fits_stage, is_fresh_work, work_number, answer_unless_given}
 use Rattle.napi_types.specs.hub.HistoryRoom.{history_room}
 use Rattle.napi_types.specs.hub.Hub.{Hub, new_hub}
 use Rattle.napi_types.specs.hub.HubEvents.{delivery_entry, begin_step, close_step, finish_step, frame_end_step}
@@ -67,7 +67,7 @@ call-own h e c o told may = by (answer_unless_given h g c (work_number o) g.refu
     x = shared_entry e c o
 
     may_come : Out → Bool
-    may_come told = is_shared c && is_timely h.stage c g.refused && is_fresh_work h told
+    may_come told = is_shared c && fits_stage h.stage c g.refused && is_fresh_work h told
 
     by : (r : Option (Answer Hub)) → answer_unless_given h g c (work_number o) g.refused ≡ r → (answered_step h x (may_come o) r).entry.reply.out ≡ o
         → IsTrue (answered_step h x (may_come o) r).may → IsItsOwn h (answered_step h x (may_come o) r)

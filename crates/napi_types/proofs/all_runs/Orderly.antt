@@ -18,7 +18,7 @@ use Rattle.napi_types.specs.environment.Changes.{book_in}
 use Rattle.napi_types.specs.environment.Ends.{end_change}
 use Rattle.napi_types.specs.environment.Entering.{asked_change}
 use Rattle.napi_types.specs.environment.Environment.{Environment}
-use Rattle.napi_types.specs.environment.Hooked.{is_late, IsHooked}
+use Rattle.napi_types.specs.environment.Hooked.{is_from_finals_on, IsHooked}
 use Rattle.napi_types.specs.environment.Moments.{is_tearing}
 use Rattle.napi_types.specs.environment.Registry.{registry_of}
 use Rattle.napi_types.specs.hub.Hub.{IsStageOf}
@@ -57,10 +57,10 @@ spent-kept = each-kept IsSpent (λ move r spent hook. unowed-moved move r.state 
 pub record Orderly (m : Machine) : Type 0 where
   pub stage : InPhase m
   pub hooked : IsHooked m.env
-  pub settled : is_late m.env.phase ≡ true → NoneRegistered m.env.book
+  pub settled : is_from_finals_on m.env.phase ≡ true → NoneRegistered m.env.book
   pub spent : is_drained m.env.phase ≡ true → All IsSpent m.env.book
 
-pub late-tears : (p : Phase) → is_late p ≡ true → is_tearing p ≡ true
+pub late-tears : (p : Phase) → is_from_finals_on p ≡ true → is_tearing p ≡ true
 late-tears phase.Finals h = refl
 late-tears phase.Gone h = refl
 late-tears _ h = cc
@@ -72,14 +72,14 @@ drained-tears phase.Hooks h = cc
 drained-tears _ h = refl
 
 -- the drain comes from Hooks, or has come before
-drain-next : (q p : Phase) → next_phase q ≡ Some p → is_drained p ≡ true → (p ≡ phase.Drain) × (is_late q ≡ false) ⊎ is_drained q ≡ true
+drain-next : (q p : Phase) → next_phase q ≡ Some p → is_drained p ≡ true → (p ≡ phase.Drain) × (is_from_finals_on q ≡ false) ⊎ is_drained q ≡ true
 drain-next phase.Init p next is = let same : phase.Live ≡ p = cc in let no : false ≡ true = ap is_drained same ∙ is in cc
 drain-next phase.Live p next is = let same : phase.Hooks ≡ p = cc in let no : false ≡ true = ap is_drained same ∙ is in cc
 drain-next phase.Hooks p next is = let same : phase.Drain ≡ p = cc in inl (sym same, refl)
 drain-next _ p next is = inr refl
 
 -- up to `finals`, where no hook is left in the list, none is registered or due
-all-spent : (e : Environment) → IsHooked e → is_late e.phase ≡ false → e.hooks ≡ [] → All IsSpent e.book
+all-spent : (e : Environment) → IsHooked e → is_from_finals_on e.phase ≡ false → e.hooks ≡ [] → All IsSpent e.book
 all-spent e hooked early none k d inside why = by (is_owed r.state) refl
   where
     r : Registration
@@ -97,7 +97,7 @@ all-spent e hooked early none k d inside why = by (is_owed r.state) refl
         cc
 
 -- the hub starts a phase
-pub settled-passed : (p : Phase) (book : Book) → p ≢ phase.Gone → is_late p ≡ true → NoneRegistered (book_in p book)
+pub settled-passed : (p : Phase) (book : Book) → p ≢ phase.Gone → is_from_finals_on p ≡ true → NoneRegistered (book_in p book)
 settled-passed phase.Finals book never late = all_due-none book
 settled-passed phase.Gone book never late = absurd (never refl)
 settled-passed _ book never late = cc
@@ -106,7 +106,7 @@ spent-passed : (e : Environment) (p : Phase) → next_phase e.phase ≡ Some p �
     → is_drained p ≡ true → All IsSpent (book_in p e.book)
 spent-passed e p next left hooked spent is = phase-kept (All IsSpent) spent-kept p e.book (by (drain-next e.phase p next is))
   where
-    by : (p ≡ phase.Drain) × (is_late e.phase ≡ false) ⊎ is_drained e.phase ≡ true → All IsSpent e.book
+    by : (p ≡ phase.Drain) × (is_from_finals_on e.phase ≡ false) ⊎ is_drained e.phase ≡ true → All IsSpent e.book
     by (inl h) = all-spent e hooked h.1 (left h.0)
     by (inr h) = spent h
 
@@ -120,7 +120,7 @@ orderly-still m n still h =
     record {
       stage = still-in-phase m n still.phase still.stage h.stage;
       hooked = unchanged m.env n.env still.phase still.registry h.hooked;
-      settled = λ p. subst NoneRegistered (sym same.book) (h.settled (ap is_late (sym still.phase) ∙ p));
+      settled = λ p. subst NoneRegistered (sym same.book) (h.settled (ap is_from_finals_on (sym still.phase) ∙ p));
       spent = λ p. subst (λ book. All IsSpent book) (sym same.book) (h.spent (ap is_drained (sym still.phase) ∙ p));
     }
 
@@ -133,7 +133,7 @@ orderly-ended m n v cut far same h =
     record {
       stage = still-in-phase m n phase far h.stage;
       hooked = subst IsHooked (sym same) (hooked-ended v cut m.env h.hooked);
-      settled = λ p. subst (λ (e : Environment). NoneRegistered e.book) (sym same) (none-ended m.env v cut (h.settled (ap is_late (sym phase) ∙ p)));
+      settled = λ p. subst (λ (e : Environment). NoneRegistered e.book) (sym same) (none-ended m.env v cut (h.settled (ap is_from_finals_on (sym phase) ∙ p)));
       spent =
           λ p. subst (λ (e : Environment). All IsSpent e.book) (sym same)
           (ended-kept (All IsSpent) spent-kept m.env v cut (h.spent (ap is_drained (sym phase) ∙ p)));
@@ -147,7 +147,8 @@ orderly-step m _ h (calls c n may alone) =
     record {
       stage = subst (λ p. IsStageOf p m.hub.stage) (sym course.phase) h.stage;
       hooked = hooked-asked m.env c n h.hooked;
-      settled = λ p. let late : is_late m.env.phase ≡ true = ap is_late (sym course.phase) ∙ p in none-asked m.env c n (late-tears m.env.phase late) (h.settled late);
+      settled = λ p. let late : is_from_finals_on m.env.phase ≡ true = ap is_from_finals_on (sym course.phase) ∙ p in none-asked m.env c n
+          (late-tears m.env.phase late) (h.settled late);
       spent = λ p. let drained : is_drained m.env.phase ≡ true = ap is_drained (sym course.phase) ∙ p in spent-asked m.env c n (drained-tears m.env.phase drained) (h.spent drained);
     }
 orderly-step m s h (ends v cut may alone) = orderly-ended m s.after v cut refl refl h
@@ -162,7 +163,7 @@ orderly-step m _ h (begins n r there next may) = record {
 orderly-step m _ h (vanishes last) = record {
   stage = stage-in m phase.Finals h.stage last;
   hooked = hooked-gone m.env h.hooked;
-  settled = λ p. h.settled (ap is_late last);
+  settled = λ p. h.settled (ap is_from_finals_on last);
   spent = λ p. h.spent (ap is_drained last);
 }
 orderly-step m s h (shares c o shared answers) = orderly-still m s.after (shares-still m c o) h

@@ -31,7 +31,7 @@ use Rattle.napi_types.specs.parts.Hooks.{Hook, last_hook, without_hook}
 use Rattle.napi_types.specs.environment.Ends.{end_change}
 use Rattle.napi_types.specs.environment.Entering.{asked_change}
 use Rattle.napi_types.specs.environment.Environment.{Environment}
-use Rattle.napi_types.specs.environment.Hooked.{is_late, StandsIn, IsHooked}
+use Rattle.napi_types.specs.environment.Hooked.{is_from_finals_on, StandsIn, IsHooked}
 use Rattle.napi_types.specs.environment.Moments.{is_tearing}
 use Rattle.napi_types.specs.environment.Registry.{registry_of}
 use Rattle.napi_types.specs.environment.SharedCalls.{shared_entry}
@@ -201,7 +201,7 @@ passed-begins : (p : Phase) → is_begin (what.Host (event_before p)) ≡ false
 passed-begins phase.Init = refl
 passed-begins _ = refl
 
-passed-finals : (p : Phase) → is_finals (what.Host (event_before p)) ≡ true → is_late p ≡ true
+passed-finals : (p : Phase) → is_finals (what.Host (event_before p)) ≡ true → is_from_finals_on p ≡ true
 passed-finals phase.Finals is = refl
 passed-finals _ is = cc
 
@@ -246,12 +246,13 @@ registered-owed book n is = by (registration_at book n) is
 abbrev IsHookAt : Book → ℕ → Type 0
 IsHookAt book n = (cause_at book n ≡ Some cause.Hook) × (is_at is_registered book n ≡ true)
 
-hook-stands : (e : Environment) (n : ℕ) → IsHooked e → is_late e.phase ≡ false → IsHookIn e.hooks n → IsHookAt e.book n
+hook-stands : (e : Environment) (n : ℕ) → IsHooked e → is_from_finals_on e.phase ≡ false → IsHookIn e.hooks n → IsHookAt e.book n
 hook-stands e n hooked early is =
     hook-holds (IsHookAt e.book) n e.hooks (All-weaker (StandsIn e.phase e.book) (λ h. IsHookAt e.book h.ticket) (λ h stands. (stands.cause, stands.registered early)) e.hooks hooked.hooks) is
 
 -- a hook after a call in Hooks was one before: no call adds one then
-hooks-called : (e d : Environment) (n : ℕ) → IsHooked e → IsHooked d → NoneMore e.book d.book → is_late e.phase ≡ false → is_late d.phase ≡ false
+hooks-called : (e d : Environment) (n : ℕ) → IsHooked e → IsHooked d → NoneMore e.book d.book → is_from_finals_on e.phase ≡ false
+    → is_from_finals_on d.phase ≡ false
     → IsHookIn d.hooks n → IsHookIn e.hooks n
 hooks-called e d n before now more early still is =
     let stands : IsHookAt d.book n = hook-stands d n now still is in
@@ -277,7 +278,7 @@ hooks-fewer m _ h k (calls c n may alone) t may_then =
     let d : Environment = (asked_change m.env c n).after in
     let same : d.phase ≡ m.env.phase = (course-parts m.env d (asked_change-fits m.env c n).course).phase in
     phase-stays m.env.phase d.phase m.env.hooks d.hooks t same
-    (λ p. hooks-called m.env d t h.hooked k.hooked (asked-more m.env c n (ap is_tearing p)) (ap is_late p) (ap is_late (same ∙ p))) may_then
+    (λ p. hooks-called m.env d t h.hooked k.hooked (asked-more m.env c n (ap is_tearing p)) (ap is_from_finals_on p) (ap is_from_finals_on (same ∙ p))) may_then
 hooks-fewer m s h k (ends v cut may alone) t may_then = ended-fewer m.env v cut t may_then
 hooks-fewer m _ h k opens t may_then = may_then
 hooks-fewer m _ h k (inits n) t may_then = may_then
@@ -304,7 +305,8 @@ due-apart Due is also = cc
 due-apart _ is also = cc
 
 -- up to `finals` no hook is due
-pub none-due : (e : Environment) (n : ℕ) (r : Registration) → IsHooked e → is_late e.phase ≡ false → registration_at e.book n ≡ Some r → r.cause ≡ cause.Hook → is_due r.state ≡ true → ⊥
+pub none-due : (e : Environment) (n : ℕ) (r : Registration) → IsHooked e → is_from_finals_on e.phase ≡ false → registration_at e.book n ≡ Some r
+    → r.cause ≡ cause.Hook → is_due r.state ≡ true → ⊥
 none-due e n r hooked early there why due =
     let owed : is_at is_owed e.book n ≡ true = at-state is_owed e.book n r there ∙ (leaves-in phase.Live).before r.state due in
     let left : IsHookIn e.hooks n = hooked.others early n (at-cause e.book n r there ∙ ap Some why) owed in
@@ -312,7 +314,7 @@ none-due e n r hooked early there why due =
 
 next-hook : (m : Machine) (n : ℕ) (r : Registration) (p : Phase) → m.env.phase ≡ p → Orderly m → registration_at m.env.book n ≡ Some r → ticket_in m.env p ≡ Some n
     → may_begin_in p r.state ≡ true → r.cause ≡ cause.Hook → MayBegin p m.env.hooks n × ((k : ℕ) → MayBegin p (hooks_left p n m.env.hooks) k → k < n)
-next-hook m n r phase.Live here h there next may why = absurd (none-due m.env n r h.hooked (ap is_late here) there why may)
+next-hook m n r phase.Live here h there next may why = absurd (none-due m.env n r h.hooked (ap is_from_finals_on here) there why may)
 next-hook m n r phase.Hooks here h there next may why = (last-among m.env.hooks n next, left-below m.env.hooks n h.hooked.rise next)
 next-hook m n r phase.Finals here h there next may why =
     let over : is_owed r.state ≡ false = registered-holds IsSpent n m.env.book r there (h.spent (ap is_drained here)) why in
@@ -339,22 +341,25 @@ hooks-next m _ h (others x other) comes = none-told _ _ (others-plain m x other 
 
 -- WHAT IS LEFT TO THE END
 -- the hub starts no phase after that of `finals`
-late-next : (q p : Phase) → next_phase q ≡ Some p → p ≢ phase.Gone → is_late q ≡ true → ⊥
+late-next : (q p : Phase) → next_phase q ≡ Some p → p ≢ phase.Gone → is_from_finals_on q ≡ true → ⊥
 late-next phase.Finals p next never late = let same : phase.Gone ≡ p = cc in never (sym same)
 late-next _ p next never late = cc
 
 -- what is late stays late, and what is due then was due before
-late-stays : (m : Machine) (s : Step) → StepCase m s → is_late m.env.phase ≡ true → is_late s.after.env.phase ≡ true
-late-stays m _ (calls c n may alone) late = ap is_late (course-parts m.env (asked_change m.env c n).after (asked_change-fits m.env c n).course).phase ∙ late
-late-stays m _ (ends v cut may alone) late = ap is_late (course-parts m.env (end_change v cut m.env).after (ended-keeps v cut m.env).course).phase ∙ late
+late-stays : (m : Machine) (s : Step) → StepCase m s → is_from_finals_on m.env.phase ≡ true → is_from_finals_on s.after.env.phase ≡ true
+late-stays m _ (calls c n may alone) late =
+    ap is_from_finals_on (course-parts m.env (asked_change m.env c n).after (asked_change-fits m.env c n).course).phase ∙ late
+late-stays m _ (ends v cut may alone) late =
+    ap is_from_finals_on (course-parts m.env (end_change v cut m.env).after (ended-keeps v cut m.env).course).phase ∙ late
 late-stays m _ (vanishes last) late = refl
-late-stays m _ (shares c o shared answers) late = ap is_late (shares-still m c o).phase ∙ late
-late-stays m _ (leaves v cut may ours) late = ap is_late (course-parts m.env (end_change v cut m.env).after (ended-keeps v cut m.env).course).phase ∙ late
+late-stays m _ (shares c o shared answers) late = ap is_from_finals_on (shares-still m c o).phase ∙ late
+late-stays m _ (leaves v cut may ours) late =
+    ap is_from_finals_on (course-parts m.env (end_change v cut m.env).after (ended-keeps v cut m.env).course).phase ∙ late
 late-stays m _ (passes p o q) late = absurd (late-next m.env.phase p q.next q.never late)
-late-stays m _ (moves move next moving alone) late = ap is_late (moves-still m move).phase ∙ late
+late-stays m _ (moves move next moving alone) late = ap is_from_finals_on (moves-still m move).phase ∙ late
 late-stays m _ _ late = late
 
-begun-late : (p : Phase) → is_late p ≡ true → begun_in p ≡ made_begun
+begun-late : (p : Phase) → is_from_finals_on p ≡ true → begun_in p ≡ made_begun
 begun-late phase.Finals late = refl
 begun-late phase.Gone late = refl
 begun-late _ late = cc
@@ -368,7 +373,8 @@ ended-due e v cut none n due =
 still-due : (m n : Machine) → StandsStill m n → (t : ℕ) → is_at is_due n.env.book t ≡ true → is_at is_due m.env.book t ≡ true
 still-due m n still t due = ap (λ book. is_at is_due book t) (sym (registry-parts (registry_of m.env) n.env still.registry).book) ∙ due
 
-due-fewer : (m : Machine) (s : Step) → Orderly m → StepCase m s → is_late m.env.phase ≡ true → (n : ℕ) → is_at is_due s.after.env.book n ≡ true → is_at is_due m.env.book n ≡ true
+due-fewer : (m : Machine) (s : Step) → Orderly m → StepCase m s → is_from_finals_on m.env.phase ≡ true → (n : ℕ) → is_at is_due s.after.env.book n ≡ true
+    → is_at is_due m.env.book n ≡ true
 due-fewer m _ h (calls c n may alone) late = (asked-more m.env c n (late-tears m.env.phase late)).due (h.settled late)
 due-fewer m _ h (ends v cut may alone) late = ended-due m.env v cut (h.settled late)
 due-fewer m _ h (begins n r there next may) late =
@@ -383,7 +389,8 @@ due-fewer m _ h _ late = λ t due. due
 abbrev IsNextDue : Environment → Environment → ℕ → Type 0
 IsNextDue e d n = (is_at is_due e.book n ≡ true) × ((k : ℕ) → is_at is_due d.book k ≡ true → n < k)
 
-next-due : (m : Machine) (n : ℕ) (r : Registration) (p : Phase) → is_late p ≡ true → NoneRegistered m.env.book → registration_at m.env.book n ≡ Some r → ticket_in m.env p ≡ Some n
+next-due : (m : Machine) (n : ℕ) (r : Registration) (p : Phase) → is_from_finals_on p ≡ true → NoneRegistered m.env.book
+    → registration_at m.env.book n ≡ Some r → ticket_in m.env p ≡ Some n
     → may_begin_in p r.state ≡ true → (is_at is_due m.env.book n ≡ true) × ((k : ℕ) → is_at is_due (moved_at (begun_in p) n m.env.book) k ≡ true → n < k)
 next-due m n r phase.Finals late none there next may = (
   at-state is_due m.env.book n r there ∙ may,
@@ -395,7 +402,8 @@ next-due m n r phase.Live late none there next may = cc
 next-due m n r phase.Hooks late none there next may = cc
 next-due m n r phase.Drain late none there next may = cc
 
-due-next : (m : Machine) (s : Step) → Orderly m → StepCase m s → IsTrue s.may → is_late m.env.phase ≡ true → AtMostOne (IsNextDue m.env s.after.env) (tickets_told s.entry)
+due-next : (m : Machine) (s : Step) → Orderly m → StepCase m s → IsTrue s.may → is_from_finals_on m.env.phase ≡ true
+    → AtMostOne (IsNextDue m.env s.after.env) (tickets_told s.entry)
 due-next m _ h (calls c n may alone) comes late = none-told _ _ (asked-plain m.env c n).tickets
 due-next m _ h (ends v cut may alone) comes late = none-told _ _ (ended-plain v cut m.env).tickets
 due-next m _ h (begins n r there next may) comes late = one_ticket n (next-due m n r m.env.phase late (h.settled late) there next may)
@@ -407,7 +415,7 @@ due-next m _ h (others x other) comes late = none-told _ _ (others-plain m x oth
 due-next m _ h _ comes late = no_ticket
 
 -- it is late once `finals` has come
-finals-start : (m : Machine) (s : Step) → StepCase m s → IsTrue s.may → is_finals s.entry.what ≡ true → is_late s.after.env.phase ≡ true
+finals-start : (m : Machine) (s : Step) → StepCase m s → IsTrue s.may → is_finals s.entry.what ≡ true → is_from_finals_on s.after.env.phase ≡ true
 finals-start m _ (calls c n may alone) comes is = let no : true ≡ false = sym is ∙ (asked-plain m.env c n).finals in cc
 finals-start m _ (ends v cut may alone) comes is = let no : true ≡ false = sym is ∙ (ended-plain v cut m.env).finals in cc
 finals-start m _ (shares c o shared answers) comes is = let no : true ≡ false = sym is ∙ (shares-plain m c o).finals in cc
@@ -425,10 +433,11 @@ run-hooks = along-orderly (λ m bs xs. TicketsFall (hooks_begun xs) × All (MayB
     subst (λ (y : Entry). AtMostOne (IsNextHook m.env (after m a x).env) (hooks_told y)) (sym next.0) (hooks-next m (step m a x) h s next.1) in
     fall-more (MayBeginAt m.env) (MayBeginAt (after m a x).env) (hooks_told x) (hooks_begun xs) (hooks-fewer m (step m a x) h k s) told rest)
 
-run-late : (m : Machine) (bs : List Ask) (xs : List Entry) → Orderly m → IsRunBy m bs xs → is_late m.env.phase ≡ true
+run-late : (m : Machine) (bs : List Ask) (xs : List Entry) → Orderly m → IsRunBy m bs xs → is_from_finals_on m.env.phase ≡ true
     → TicketsRise (tickets_begun xs) × All (λ n. is_at is_due m.env.book n ≡ true) (tickets_begun xs)
 run-late =
-    along-orderly (λ m bs xs. is_late m.env.phase ≡ true → TicketsRise (tickets_begun xs) × All (λ n. is_at is_due m.env.book n ≡ true) (tickets_begun xs))
+    along-orderly (λ m bs xs. is_from_finals_on m.env.phase ≡ true → TicketsRise (tickets_begun xs) × All (λ n. is_at is_due m.env.book n ≡ true)
+    (tickets_begun xs))
     (λ m late. (tt, All-nil (λ n. is_at is_due m.env.book n ≡ true)))
     (λ m a bs x xs h next s k rest late.
     let told : AtMostOne (IsNextDue m.env (after m a x).env) (tickets_told x) =

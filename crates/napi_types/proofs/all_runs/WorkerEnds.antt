@@ -22,7 +22,7 @@ use Rattle.napi_types.specs.plain.Replies.{Answer}
 use Rattle.napi_types.specs.plain.Room.{one_if}
 use Rattle.napi_types.specs.parts.Pool.{executed_by}
 use Rattle.napi_types.specs.hub.Actors.{is_worker, WorkerState, Free, Working, Over, worker_after, does_next, worker_along}
-use Rattle.napi_types.specs.hub.GivenSteps.{is_timely, is_fresh_work, given_step, answer_unless_given, work_number}
+use Rattle.napi_types.specs.hub.GivenSteps.{fits_stage, is_fresh_work, given_step, answer_unless_given, work_number}
 use Rattle.napi_types.specs.hub.HistoryRoom.{work_places, function_places, reserved_history}
 use Rattle.napi_types.specs.hub.Hub.{Hub, left_of, threads_left, workers_left, stage_places}
 use Rattle.napi_types.specs.hub.HubCalls.{hub_answer, is_thread_call}
@@ -58,7 +58,8 @@ answered-actor h x may (Some a) = refl
 given-actor : (h : Hub) (x : Entry) (c : Call) (g : Option Given) → (given_step h x c g).entry.actor ≡ x.actor
 given-actor h x c None = refl
 given-actor h x c (Some g) =
-    answered-actor h x (is_shared c && is_timely h.stage c g.refused && is_fresh_work h x.reply.out) (answer_unless_given h g c (work_number x.reply.out) g.refused)
+    answered-actor h x (is_shared c && fits_stage h.stage c g.refused && is_fresh_work h x.reply.out)
+    (answer_unless_given h g c (work_number x.reply.out) g.refused)
 
 loop_end-actor : (h : Hub) (x : Entry) (o : Out) → x.actor ≡ actor.Env → (loop_end_step h x o).entry.actor ≡ x.actor
 loop_end-actor h x (out.Ended w) is = sym is

@@ -13,7 +13,7 @@ use Rattle.napi_types.specs.declared.entry.Phase.{Phase}
 use Rattle.napi_types.specs.plain.Lists.{has}
 use Rattle.napi_types.specs.parts.Book.{Book, Registration, TicketState, Registered, Due, Begun, is_registered, is_owed, is_at, made_begun, made_ended, changed_where, moved, moved_at, new_ticket, registration_at, with_registration, TicketsRise, cause_at}
 use Rattle.napi_types.specs.parts.Hooks.{Hook}
-use Rattle.napi_types.specs.environment.Hooked.{is_late, StandsIn}
+use Rattle.napi_types.specs.environment.Hooked.{is_from_finals_on, StandsIn}
 use Rattle.napi_types.proofs.plain.Maps.{map-filter}
 use Rattle.napi_types.proofs.parts.Moved.{IsUnder, BeginsFor, under, at-state, at-cause, registration-within, registration_at-before, registration_at-new, registration_at-either, KeepsCause, cause_at-changed_where, is_at-changed_where, is_at-before}
 use Rattle.napi_types.proofs.environment.FrameChanges.{book_left}
@@ -46,9 +46,9 @@ pub record SparesHooks (stays : ℕ → Bool) (old new : Book) : Type 0 where
 -- all of this up to `finals`, and the first from then on
 pub record BookGoes (p : Phase) (stays : ℕ → Bool) (old new : Book) : Type 0 where
   pub causes : KeepsCauses old new
-  pub spares : is_late p ≡ false → SparesHooks stays old new
+  pub spares : is_from_finals_on p ≡ false → SparesHooks stays old new
 
-pub late-goes : (p : Phase) (stays : ℕ → Bool) (old new : Book) → (is_late p ≡ false → ⊥) → KeepsCauses old new → BookGoes p stays old new
+pub late-goes : (p : Phase) (stays : ℕ → Bool) (old new : Book) → (is_from_finals_on p ≡ false → ⊥) → KeepsCauses old new → BookGoes p stays old new
 late-goes p stays old new late causes = record { causes = causes; spares = λ early. absurd (late early) }
 
 -- every ticket passes, or every other one
@@ -185,10 +185,11 @@ ticket-goes p move t book gone =
 pub record HooksAgree (p : Phase) (book : Book) (hooks : List Hook) : Type 0 where
   pub rise : TicketsRise (map (λ h. h.ticket) hooks)
   pub stand : All (StandsIn p book) hooks
-  pub others : is_late p ≡ false → (n : ℕ) → cause_at book n ≡ Some cause.Hook → is_at is_owed book n ≡ true → has (λ h. h.ticket) n hooks ≡ true
+  pub others : is_from_finals_on p ≡ false → (n : ℕ) → cause_at book n ≡ Some cause.Hook → is_at is_owed book n ≡ true → has (λ h. h.ticket) n hooks ≡ true
 
 -- the book goes a step, and the hooks stay whose tickets pass
-pub listed-goes : (p q : Phase) (stays : ℕ → Bool) (old new : Book) (hooks : List Hook) → (is_late q ≡ false → is_late p ≡ false) → BookGoes q stays old new → HooksAgree p old hooks
+pub listed-goes : (p q : Phase) (stays : ℕ → Bool) (old new : Book) (hooks : List Hook) → (is_from_finals_on q ≡ false → is_from_finals_on p ≡ false)
+    → BookGoes q stays old new → HooksAgree p old hooks
     → HooksAgree q new (filter (λ h. stays h.ticket) hooks)
 listed-goes p q stays old new hooks sooner goes l = record {
   rise = subst TicketsRise (sym (map-filter (λ (h : Hook). h.ticket) (λ h. stays h.ticket) stays (λ h. refl) hooks)) (rise-filter stays (map (λ h. h.ticket) hooks) l.rise);
@@ -242,7 +243,8 @@ listed-push p book hooks h r ticket hook state l = record {
     here : StandsIn p now h
     here = record { cause = at-cause now h.ticket r there ∙ ap Some hook; registered = λ early. at-state is_registered now h.ticket r there ∙ ap is_registered state }
 
-    others : is_late p ≡ false → (n : ℕ) → cause_at now n ≡ Some cause.Hook → is_at is_owed now n ≡ true → has (λ x. x.ticket) n (hooks ++ h ∷ []) ≡ true
+    others : is_from_finals_on p ≡ false → (n : ℕ) → cause_at now n ≡ Some cause.Hook → is_at is_owed now n ≡ true → has (λ x. x.ticket) n
+        (hooks ++ h ∷ []) ≡ true
     others early n why is =
         let u : IsUnder (BeginsFor cause.Hook) now n = under now n cause.Hook why in
         list_any-append (λ (x : Hook). x.ticket == n) hooks (h ∷ [])

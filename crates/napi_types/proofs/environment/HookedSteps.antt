@@ -29,7 +29,7 @@ use Rattle.napi_types.specs.environment.Ends.{end_change}
 use Rattle.napi_types.specs.environment.Entering.{enter_change, asked_change}
 use Rattle.napi_types.specs.environment.Environment.{Environment, OpenedWith, new_environment}
 use Rattle.napi_types.specs.environment.HookCalls.{hook_registration, hooking, unhooking}
-use Rattle.napi_types.specs.environment.Hooked.{is_late, StandsIn, HasFinalizer, IsHooked}
+use Rattle.napi_types.specs.environment.Hooked.{is_from_finals_on, StandsIn, HasFinalizer, IsHooked}
 use Rattle.napi_types.specs.environment.Registering.{finalizer_of, withdrawing}
 use Rattle.napi_types.specs.environment.Registry.{registry_of}
 use Rattle.napi_types.specs.environment.Roots.{reach}
@@ -71,7 +71,8 @@ hooked-by e l on is =
     record { rise = l.rise; hooks = l.stand; others = l.others; attached = tickets_in-holds (Finalizes e.book) e.attachments on; instances = is }
 
 -- the book goes a step, and the hooks stay whose tickets pass
-hooked-goes : (old new : Environment) (stays : ℕ → Bool) → (is_late new.phase ≡ false → is_late old.phase ≡ false) → BookGoes new.phase stays old.book new.book
+hooked-goes : (old new : Environment) (stays : ℕ → Bool) → (is_from_finals_on new.phase ≡ false → is_from_finals_on old.phase ≡ false)
+    → BookGoes new.phase stays old.book new.book
     → new.hooks ≡ filter (λ h. stays h.ticket) old.hooks → new.attachments ≡ old.attachments → new.instances ≡ old.instances → IsHooked old → IsHooked new
 hooked-goes old new stays sooner goes hooks attachments instances h =
     hooked-by new
@@ -87,7 +88,8 @@ pub unchanged : (old new : Environment) → new.phase ≡ old.phase → registry
 unchanged old new phase registry h =
     let same : HasRegistry (registry_of old) new = registry-parts (registry_of old) new registry in
     let goes : BookGoes new.phase every_ticket old.book new.book = subst (λ b. BookGoes new.phase every_ticket old.book b) (sym same.book) (goes-nowhere new.phase old.book) in
-    hooked-goes old new every_ticket (λ early. ap is_late (sym phase) ∙ early) goes (same.hooks ∙ all-stay old.hooks) same.attachments same.instances h
+    hooked-goes old new every_ticket (λ early. ap is_from_finals_on (sym phase) ∙ early) goes
+    (same.hooks ∙ all-stay old.hooks) same.attachments same.instances h
 
 -- one thing changes alone
 hooked-book : (e : Environment) (book : Book) → BookGoes e.phase every_ticket e.book book → IsHooked e → IsHooked (record e { book = book })
@@ -138,7 +140,7 @@ found-holds P test (x ∷ xs) all = by (test x) (found-holds P test xs (All-tail
 
 -- the ticket of a hook is registered up to `finals`
 abbrev HookWaits : Environment → ℕ → Type 0
-HookWaits e t = is_late e.phase ≡ false → is_at is_registered e.book t ≡ true
+HookWaits e t = is_from_finals_on e.phase ≡ false → is_at is_registered e.book t ≡ true
 
 hook-waits : (e : Environment) (addon entry argument : ℕ) → IsHooked e → IfSome (hook_ticket addon entry argument e.hooks) (HookWaits e)
 hook-waits e addon entry argument h =
@@ -161,7 +163,7 @@ unhooking-hooked e (Some t) waits h = by (is_at is_registered e.book t) refl
         λ r there. withdrawn-leaves.after r.state (sym (at-state is_registered e.book t r there) ∙ is) in
         hooked-goes e (withdrawn left t) (all_but_ticket t) (λ early. early) (ticket-goes e.phase made_withdrawn t e.book gone) refl refl refl h
     by false is =
-        let late : is_late e.phase ≡ false → ⊥ = λ early. let no : true ≡ false = sym (waits early) ∙ is in cc in
+        let late : is_from_finals_on e.phase ≡ false → ⊥ = λ early. let no : true ≡ false = sym (waits early) ∙ is in cc in
         hooked-goes e left (all_but_ticket t) (λ early. early) (late-goes e.phase (all_but_ticket t) e.book e.book late (λ n why was. was)) refl refl refl h
 
 -- A COLLECTION
@@ -251,8 +253,8 @@ phase-goes phase.Finals book =
     late-goes phase.Finals every_ticket book (book_in phase.Finals book) (λ early. cc) (changed-causes (moved made_due) (λ r. refl) (λ n. true) book)
 phase-goes p book = goes-nowhere p book
 
-sooner : (q p : Phase) → next_phase q ≡ Some p → is_late p ≡ false → is_late q ≡ false
-sooner phase.Finals p next early = let no : true ≡ false = ap is_late (same_Some phase.Gone p next) ∙ early in cc
+sooner : (q p : Phase) → next_phase q ≡ Some p → is_from_finals_on p ≡ false → is_from_finals_on q ≡ false
+sooner phase.Finals p next early = let no : true ≡ false = ap is_from_finals_on (same_Some phase.Gone p next) ∙ early in cc
 sooner phase.Gone p next early = let no : ⊥ = cc in absurd no
 sooner _ p next early = refl
 
@@ -269,7 +271,8 @@ last-holds P (x ∷ []) h all last = subst P (same_Some x h last) (All-head P x 
 last-holds P (x ∷ y ∷ hooks) h all last = last-holds P (y ∷ hooks) h (All-tail P x (y ∷ hooks) all) last
 
 -- the hook that was added last is registered
-pub hook-registered : (e : Environment) (h : Hook) → IsHooked e → is_late e.phase ≡ false → last_hook e.hooks ≡ Some h → is_at is_registered e.book h.ticket ≡ true
+pub hook-registered : (e : Environment) (h : Hook) → IsHooked e → is_from_finals_on e.phase ≡ false → last_hook e.hooks ≡ Some h
+    → is_at is_registered e.book h.ticket ≡ true
 hook-registered e h hooked early last = (last-holds (StandsIn e.phase e.book) e.hooks h hooked.hooks last).registered early
 
 -- the tickets of hooks were given

@@ -31,7 +31,7 @@ use Rattle.napi_types.specs.hub.Hub.{Hub, stage_after, threads_left, workers_lef
 use Rattle.napi_types.specs.hub.HubCalls.{unless_refused, on_function, tsfn_at, call_answer, called_answer, with_function, hub_answer, is_thread_call}
 use Rattle.napi_types.specs.hub.HubMoves.{HubMove, Delivers, Closes, Finishes, hub_move, in_pool, in_tsfn, with_delivered}
 use Rattle.napi_types.specs.hub.HubStep.{HubStep, answered_step}
-use Rattle.napi_types.specs.hub.GivenSteps.{is_looped, is_failure, is_timely, is_fresh_work, work_number, answer_unless_given, given_step}
+use Rattle.napi_types.specs.hub.GivenSteps.{is_looped, is_failure, fits_stage, is_fresh_work, work_number, answer_unless_given, given_step}
 use Rattle.napi_types.specs.hub.HubEvents.{environment_event, staged, drained_hub, loop_end_step, begin_step, close_step, finish_step, frame_end_step}
 use Rattle.napi_types.specs.hub.ThreadSteps.{is_thread_there, nothing_given, thread_step, thread_event}
 use Rattle.napi_types.specs.hub.WorkerSteps.{worker_step, worker_event, start_step, work_end_step}
@@ -146,14 +146,15 @@ answer-case h x who g _ is fresh early = tt
 given-case : (h : Hub) (x : Entry) (c : Call) (g : Option Given) → x.what ≡ what.Call c → StepsTo h x (given_step h x c g)
 given-case h x c None is = λ may. cc
 given-case h x c (Some g) is =
-    answered-case h x x _ (answer_unless_given h g c (work_number x.reply.out) g.refused) (λ may. by (is_shared c) (is_timely h.stage c g.refused) (is_fresh_work h x.reply.out) refl refl refl may g.refused refl)
+    answered-case h x x _ (answer_unless_given h g c (work_number x.reply.out) g.refused)
+    (λ may. by (is_shared c) (fits_stage h.stage c g.refused) (is_fresh_work h x.reply.out) refl refl refl may g.refused refl)
   where
     timely : (looped registering : Bool) → IsTrue (not (looped && registering) || false) → registering ≡ true → looped ≡ false
     timely false registering t r = refl
     timely true true t r = cc
     timely true false t r = cc
 
-    by : (s t f : Bool) → is_shared c ≡ s → is_timely h.stage c g.refused ≡ t → is_fresh_work h x.reply.out ≡ f → IsTrue (s && t && f)
+    by : (s t f : Bool) → is_shared c ≡ s → fits_stage h.stage c g.refused ≡ t → is_fresh_work h x.reply.out ≡ f → IsTrue (s && t && f)
         → (refused : Option Status) → g.refused ≡ refused → AnswersWell h x (answer_unless_given h g c (work_number x.reply.out) refused)
     by true true true shared t fresh may (Some s) told = asks c is shared
     by true true true shared t fresh may None told =

@@ -398,29 +398,47 @@ called-late f payload _ never = omega arith
 
 pub late-room : (late : Bool) (h : Hub) (x : Entry) (told : Out) (n : Hub) → late ≡ true → is_looped h.stage ≡ true → AreSoundFrom late 1 h.functions → HubCase h x told n
     → reserved_history n ≤ reserved_history h
-late-room late h x told _ is_late looped sound (queues_work w is none early) = let no : true ≡ false = sym looped ∙ early in cc
-late-room late h x told _ is_late looped sound (creates_function f entry maximum count finalizer context addon target is early) = let no : true ≡ false = sym looped ∙ early in cc
-late-room late h x told _ is_late looped sound (alters c k f change is there (calls g payload m who s tells)) =
+late-room late h x told _ is_from_finals_on looped sound (queues_work w is none early) = let no : true ≡ false = sym looped ∙ early in cc
+late-room late h x told _ is_from_finals_on looped sound (creates_function f entry maximum count finalizer context addon target is early) =
+    let no : true ≡ false = sym looped ∙ early in cc
+late-room late h x told _ is_from_finals_on looped sound (alters c k f change is there (calls g payload m who s tells)) =
     let among : IsAmong late 1 h.functions f = found-among late 1 k h.functions f sound there in
-    let never : s ≡ status.Ok → ⊥ = λ ok. let no : false ≡ true = sym (among.sound.shut is_late) ∙ called-open who m f (tells ∙ ap Some ok) in cc in
+    let never : s ≡ status.Ok → ⊥ = λ ok. let no : false ≡ true = sym (among.sound.shut is_from_finals_on) ∙ called-open who m f (tells ∙ ap Some ok) in cc in
     no-more (reserved_history (in_tsfn f.id change h)) (reserved_history h) (in-function-room late h f change 0 0 among (called-late f payload s never))
-late-room late h x told _ is_late looped sound (alters c k f change is there (acquires g)) = one-place _ _ x (what.Call c) is (omega arith) (hub-room late h x told _ sound (alters c k f change is there (acquires g)))
-late-room late h x told _ is_late looped sound (alters c k f change is there (releases g m)) = one-place _ _ x (what.Call c) is (omega arith) (hub-room late h x told _ sound (alters c k f change is there (releases g m)))
-late-room late h x told _ is_late looped sound (alters c k f change is there (references g)) = one-place _ _ x (what.Call c) is (omega arith) (hub-room late h x told _ sound (alters c k f change is there (references g)))
-late-room late h x told _ is_late looped sound (alters c k f change is there (unreferences g)) = one-place _ _ x (what.Call c) is (omega arith) (hub-room late h x told _ sound (alters c k f change is there (unreferences g)))
-late-room late h x told _ is_late looped sound (asks c is shared) = omega arith
-late-room late h x told _ is_late looped sound (creates_work job entry payload addon is fresh tells) = one-place _ _ x _ is (omega arith) (hub-room late h x told _ sound (creates_work job entry payload addon is fresh tells))
-late-room late h x told _ is_late looped sound (deletes_work w is none) = one-place _ _ x _ is (omega arith) (hub-room late h x told _ sound (deletes_work w is none))
-late-room late h x told _ is_late looped sound (cancels_work w is none) = one-place _ _ x _ is (omega arith) (hub-room late h x told _ sound (cancels_work w is none))
-late-room late h x told _ is_late looped sound (goes is may) = one-place _ _ x _ is (omega arith) (hub-room late h x told _ sound (goes is may))
-late-room late h x told _ is_late looped sound (ends_loop is may) = one-place _ _ x _ is (omega arith) (hub-room late h x told _ sound (ends_loop is may))
-late-room late h x told _ is_late looped sound (drains is may) = one-place _ _ x _ is (omega arith) (hub-room late h x told _ sound (drains is may))
-late-room late h x told _ is_late looped sound (comes_to_finals is may) = one-place _ _ x _ is (omega arith) (hub-room late h x told _ sound (comes_to_finals is may))
-late-room late h x told _ is_late looped sound (delivers d is next alone) = one-place _ _ x _ is (omega arith) (hub-room late h x told _ sound (delivers d is next alone))
-late-room late h x told _ is_late looped sound (closes n is next) = one-place _ _ x _ is (omega arith) (hub-room late h x told _ sound (closes n is next))
-late-room late h x told _ is_late looped sound (finishes n is next) = one-place _ _ x _ is (omega arith) (hub-room late h x told _ sound (finishes n is next))
-late-room late h x told _ is_late looped sound (ends d is stands) = one-place _ _ x _ is (omega arith) (hub-room late h x told _ sound (ends d is stands))
-late-room late h x told _ is_late looped sound (thread_ends t is there) = one-place _ _ x _ is (omega arith) (hub-room late h x told _ sound (thread_ends t is there))
-late-room late h x told _ is_late looped sound (worker_ends w is there) = one-place _ _ x _ is (omega arith) (hub-room late h x told _ sound (worker_ends w is there))
-late-room late h x told _ is_late looped sound (starts w n later is waits free) = one-place _ _ x _ is (omega arith) (hub-room late h x told _ sound (starts w n later is waits free))
-late-room late h x told _ is_late looped sound (finishes_work w n is runs) = one-place _ _ x _ is (omega arith) (hub-room late h x told _ sound (finishes_work w n is runs))
+late-room late h x told _ is_from_finals_on looped sound (alters c k f change is there (acquires g)) =
+    one-place _ _ x (what.Call c) is (omega arith) (hub-room late h x told _ sound (alters c k f change is there (acquires g)))
+late-room late h x told _ is_from_finals_on looped sound (alters c k f change is there (releases g m)) =
+    one-place _ _ x (what.Call c) is (omega arith) (hub-room late h x told _ sound (alters c k f change is there (releases g m)))
+late-room late h x told _ is_from_finals_on looped sound (alters c k f change is there (references g)) =
+    one-place _ _ x (what.Call c) is (omega arith) (hub-room late h x told _ sound (alters c k f change is there (references g)))
+late-room late h x told _ is_from_finals_on looped sound (alters c k f change is there (unreferences g)) =
+    one-place _ _ x (what.Call c) is (omega arith) (hub-room late h x told _ sound (alters c k f change is there (unreferences g)))
+late-room late h x told _ is_from_finals_on looped sound (asks c is shared) = omega arith
+late-room late h x told _ is_from_finals_on looped sound (creates_work job entry payload addon is fresh tells) =
+    one-place _ _ x _ is (omega arith) (hub-room late h x told _ sound (creates_work job entry payload addon is fresh tells))
+late-room late h x told _ is_from_finals_on looped sound (deletes_work w is none) =
+    one-place _ _ x _ is (omega arith) (hub-room late h x told _ sound (deletes_work w is none))
+late-room late h x told _ is_from_finals_on looped sound (cancels_work w is none) =
+    one-place _ _ x _ is (omega arith) (hub-room late h x told _ sound (cancels_work w is none))
+late-room late h x told _ is_from_finals_on looped sound (goes is may) = one-place _ _ x _ is (omega arith) (hub-room late h x told _ sound (goes is may))
+late-room late h x told _ is_from_finals_on looped sound (ends_loop is may) =
+    one-place _ _ x _ is (omega arith) (hub-room late h x told _ sound (ends_loop is may))
+late-room late h x told _ is_from_finals_on looped sound (drains is may) = one-place _ _ x _ is (omega arith) (hub-room late h x told _ sound (drains is may))
+late-room late h x told _ is_from_finals_on looped sound (comes_to_finals is may) =
+    one-place _ _ x _ is (omega arith) (hub-room late h x told _ sound (comes_to_finals is may))
+late-room late h x told _ is_from_finals_on looped sound (delivers d is next alone) =
+    one-place _ _ x _ is (omega arith) (hub-room late h x told _ sound (delivers d is next alone))
+late-room late h x told _ is_from_finals_on looped sound (closes n is next) =
+    one-place _ _ x _ is (omega arith) (hub-room late h x told _ sound (closes n is next))
+late-room late h x told _ is_from_finals_on looped sound (finishes n is next) =
+    one-place _ _ x _ is (omega arith) (hub-room late h x told _ sound (finishes n is next))
+late-room late h x told _ is_from_finals_on looped sound (ends d is stands) =
+    one-place _ _ x _ is (omega arith) (hub-room late h x told _ sound (ends d is stands))
+late-room late h x told _ is_from_finals_on looped sound (thread_ends t is there) =
+    one-place _ _ x _ is (omega arith) (hub-room late h x told _ sound (thread_ends t is there))
+late-room late h x told _ is_from_finals_on looped sound (worker_ends w is there) =
+    one-place _ _ x _ is (omega arith) (hub-room late h x told _ sound (worker_ends w is there))
+late-room late h x told _ is_from_finals_on looped sound (starts w n later is waits free) =
+    one-place _ _ x _ is (omega arith) (hub-room late h x told _ sound (starts w n later is waits free))
+late-room late h x told _ is_from_finals_on looped sound (finishes_work w n is runs) =
+    one-place _ _ x _ is (omega arith) (hub-room late h x told _ sound (finishes_work w n is runs))

@@ -21,7 +21,7 @@ use Rattle.napi_types.specs.hub.Waits.{waits_at, SomebodyGoesOn}
 use Rattle.napi_types.proofs.plain.Found.{same-self, found-first}
 use Rattle.napi_types.proofs.plain.Lists.{none-first, none-last}
 use Rattle.napi_types.proofs.hub.EarlyWorkers.{IsStaffed}
-use Rattle.napi_types.proofs.hub.LateCalls.{told-answer}
+use Rattle.napi_types.proofs.hub.CallsAfterTheDrain.{told-answer}
 use Rattle.napi_types.proofs.hub.ServingWorkers.{IsServing}
 
 -- NO CALL WAITS

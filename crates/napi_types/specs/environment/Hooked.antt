@@ -13,15 +13,15 @@ use Rattle.napi_types.specs.parts.InstanceData.{InstanceData}
 use Rattle.napi_types.specs.environment.Environment.{Environment}
 
 -- from `finals` on
-abbrev pub is_late : Phase → Bool
-is_late phase.Finals = true
-is_late phase.Gone = true
-is_late _ = false
+abbrev pub is_from_finals_on : Phase → Bool
+is_from_finals_on phase.Finals = true
+is_from_finals_on phase.Gone = true
+is_from_finals_on _ = false
 
 -- the ticket of a hook of the list has the cause of hooks, and is registered up to `finals`
 pub record StandsIn (p : Phase) (book : Book) (h : Hook) : Type 0 where
   pub cause : cause_at book h.ticket ≡ Some cause.Hook
-  pub registered : is_late p ≡ false → is_at is_registered book h.ticket ≡ true
+  pub registered : is_from_finals_on p ≡ false → is_at is_registered book h.ticket ≡ true
 
 -- instance data that has a ticket has that of a finalizer
 abbrev pub HasFinalizer : Book → Option InstanceData → Type 0
@@ -32,7 +32,8 @@ pub record IsHooked (e : Environment) : Type 0 where
   pub rise : TicketsRise (map (λ h. h.ticket) e.hooks)
   pub hooks : All (StandsIn e.phase e.book) e.hooks
   -- up to `finals` no other hook is registered or due
-  pub others : is_late e.phase ≡ false → (n : ℕ) → cause_at e.book n ≡ Some cause.Hook → is_at is_owed e.book n ≡ true → has (λ h. h.ticket) n e.hooks ≡ true
+  pub others : is_from_finals_on e.phase ≡ false → (n : ℕ) → cause_at e.book n ≡ Some cause.Hook → is_at is_owed e.book n ≡ true → has
+      (λ h. h.ticket) n e.hooks ≡ true
   -- what is attached to values has tickets of finalizers, and so has instance data
   pub attached : (n : ℕ) → has_number n (tickets_in e.attachments) ≡ true → cause_at e.book n ≡ Some cause.Finalize
   pub instances : All (HasFinalizer e.book) e.instances

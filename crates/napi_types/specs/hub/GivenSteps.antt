@@ -28,8 +28,8 @@ is_failure (Some status.GenericFailure) = true
 is_failure _ = false
 
 -- from `loop_end` on the environment refuses each call that registers with 9
-abbrev pub is_timely : Stage → Call → Option Status → Bool
-is_timely s c refused = not (is_looped s && is_registering c) || is_failure refused
+abbrev pub fits_stage : Stage → Call → Option Status → Bool
+fits_stage s c refused = not (is_looped s && is_registering c) || is_failure refused
 
 -- the number of a work that a result newly gives; 0 where it gives none
 abbrev pub work_number : Out → ℕ
@@ -50,5 +50,5 @@ answer_unless_given h g c n None = hub_answer h actor.Env g c n
 abbrev pub given_step : Hub → Entry → Call → Option Given → HubStep
 given_step h x c None = no_hub_step h x
 given_step h x c (Some g) =
-    answered_step h x (is_shared c && is_timely h.stage c g.refused && is_fresh_work h x.reply.out)
+    answered_step h x (is_shared c && fits_stage h.stage c g.refused && is_fresh_work h x.reply.out)
     (answer_unless_given h g c (work_number x.reply.out) g.refused)

@@ -5,7 +5,7 @@ ghost use Rattle.napi_types.specs.environment.SharedCalls.{handed_entry as entry
 ghost use Rattle.napi_types.specs.plain.CallFacts.{group_of};
 ghost use Rattle.napi_types.specs.plain.Guards.{is_shared, is_growing};
 ghost use Rattle.napi_types.specs.plain.Room.{is_full};
-ghost use Rattle.napi_types.specs.hub.GivenSteps.{is_timely};
+ghost use Rattle.napi_types.specs.hub.GivenSteps.{fits_stage};
 ghost use Rattle.napi_types.specs.hub.HistoryLaws.{KeepsStanding};
 ghost use Rattle.napi_types.specs.hub.Hub.{Hub};
 ghost use Rattle.napi_types.specs.hub.HubCalls.{hub_answer, is_thread_call};
@@ -47,7 +47,7 @@ impl<J: Job, N: Naming> HubState<J, N> {
         requires refused { IsOwnRefusal call.now.refused }
         requires target { NamesTarget call.now }
         requires initial { call.now.refused ≡ None → IsHeldAtFirst call.now.call }
-        requires timely { IsTrue (is_timely self.old.hub.stage call.now.call call.now.refused) }
+        requires timely { IsTrue (fits_stage self.old.hub.stage call.now.call call.now.refused) }
         ensures next { IfOk result (λ reply. AddsEntry self.old (entry_handed call.now reply) self.new) }
         ensures keeps { KeepsStanding self.old.hub self.new.hub }
         ensures stop { OnErr result (self.new ≡ self.old) }

@@ -5,7 +5,7 @@ use Rattle.napi_types.specs.plain.Entries.{host_entry}
 use Rattle.napi_types.specs.parts.Book.{is_begun, is_at, due_info}
 use Rattle.napi_types.specs.parts.Frames.{frame_of_duty, begin_told}
 use Rattle.napi_types.specs.environment.Environment.{Environment}
-use Rattle.napi_types.specs.environment.Hooked.{is_late}
+use Rattle.napi_types.specs.environment.Hooked.{is_from_finals_on}
 use Rattle.napi_types.specs.environment.Tickets.{ticket_in}
 use Rattle.finalizer_queue.specs.KeptBook.{ticket_number}
 use Rattle.env_values.specs.SeenValues.{heap_of}
@@ -16,7 +16,7 @@ use Rattle.env_core.proofs.state.State.begin_hook.Goals as goal
 pub begin_hook-requires : goal.begin_hook-requires
 begin_hook-requires c =
     let e = the_view c.self.inside in
-    last-waits e (rw (← c.self.view_is) at c.requires.hooked) (ap is_late (rw (← c.self.view_is) at c.requires.phase))
+    last-waits e (rw (← c.self.view_is) at c.requires.hooked) (ap is_from_finals_on (rw (← c.self.view_is) at c.requires.phase))
 
 pub invariant_of-self-2 : goal.invariant_of-self-2
 invariant_of-self-2 c =
