@@ -5,7 +5,7 @@ use Rattle.napi_types.specs.declared.entry.HostStep.{HostStep}
 use Rattle.napi_types.specs.declared.entry.HostStep.TheVariants as host
 use Rattle.napi_types.specs.declared.entry.Out.{Out}
 use Rattle.napi_types.specs.declared.entry.What.TheVariants as what
-use Rattle.napi_types.specs.hub.Hub.{Hub, Stage, Before, Going, Looped, Drained, Final, stage_after}
+use Rattle.napi_types.specs.hub.Hub.{Hub, Stage, Before, Live, LoopEnded, Drained, Final, stage_after}
 use Rattle.napi_types.specs.hub.HubMoves.{is_spent}
 use Rattle.napi_types.specs.hub.HubSteps.{IsHubNext, hub_step}
 use Rattle.napi_types.proofs.plain.Conditions.{and-left}
@@ -17,8 +17,8 @@ use Rattle.env_loop.specs.HubTurns.{SpentAtFinals}
 only-finals : (s : Stage) (event : HostStep) → is_some (stage_after s event) ≡ true → unwrap_or (stage_after s event) s ≡ Final → event ≡ host.Finals
 only-finals Drained host.Finals comes final = refl
 only-finals Before host.Go comes final = cc
-only-finals Going host.LoopEnd comes final = cc
-only-finals Looped host.Drain comes final = cc
+only-finals Live host.LoopEnd comes final = cc
+only-finals LoopEnded host.Drain comes final = cc
 only-finals _ _ comes final = cc
 
 final-before : (h : Hub) (x : Entry) (told : Out) (n : Hub) → HubCase h x told n → n.stage ≡ Final → (h.stage ≡ Final) ⊎ (x.what ≡ what.Host host.Finals)

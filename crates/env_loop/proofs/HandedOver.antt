@@ -17,7 +17,7 @@ use Rattle.napi_types.specs.environment.Moments.{is_tearing}
 use Rattle.napi_types.specs.environment.Owners.{IsOwned}
 use Rattle.napi_types.specs.environment.Refusals.{refusal}
 use Rattle.napi_types.specs.environment.SharedCalls.{target_of, target_unless}
-use Rattle.napi_types.specs.hub.GivenSteps.{is_looped, is_failure, fits_stage}
+use Rattle.napi_types.specs.hub.GivenSteps.{has_loop_ended, is_failure, fits_stage}
 use Rattle.napi_types.specs.hub.Hub.{Stage, IsStageOf}
 use Rattle.napi_types.specs.hub.HubCalls.{no_target}
 use Rattle.napi_types.proofs.plain.Lists.{none-first, not-unless}
@@ -33,9 +33,9 @@ own-refusal e c w = subst (λ (s : SharedCall). IsOwnRefusal s.refused) (sym w.h
 
 -- THE MOMENT
 -- once the loop has ended the environment is in its teardown
-torn : (p : Phase) (s : Stage) → IsStageOf p s → is_looped s ≡ true → is_tearing p ≡ true
-torn phase.Init s shows looped = let no : false ≡ true = sym (ap is_looped shows) ∙ looped in cc
-torn phase.Live s shows looped = let no : false ≡ true = sym (ap is_looped shows) ∙ looped in cc
+torn : (p : Phase) (s : Stage) → IsStageOf p s → has_loop_ended s ≡ true → is_tearing p ≡ true
+torn phase.Init s shows looped = let no : false ≡ true = sym (ap has_loop_ended shows) ∙ looped in cc
+torn phase.Live s shows looped = let no : false ≡ true = sym (ap has_loop_ended shows) ∙ looped in cc
 torn phase.Hooks s shows looped = refl
 torn phase.Drain s shows looped = refl
 torn phase.Finals s shows looped = refl
@@ -64,7 +64,7 @@ allows false registers failed fails = refl
 pub is-timely : (e : Environment) (s : Stage) (c : SharedCall) → IsAwaited e c → IsStageOf e.phase s → IsTrue (fits_stage s c.call c.refused)
 is-timely e s c w shows =
     subst (λ (x : SharedCall). IsTrue (fits_stage s c.call x.refused)) (sym w.handed)
-    (allows (is_looped s) (is_registering c.call) (is_failure (refusal e c.call))
+    (allows (has_loop_ended s) (is_registering c.call) (is_failure (refusal e c.call))
     (λ looped registers. torn-refused e c.call w.shared registers (torn e.phase s shows looped)))
 
 -- WHOSE IT IS

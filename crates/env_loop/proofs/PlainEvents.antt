@@ -14,7 +14,7 @@ use Rattle.napi_types.specs.scripts.Plans.{Plan}
 use Rattle.napi_types.specs.environment.Changes.{in_phase}
 use Rattle.napi_types.specs.environment.Environment.{Environment}
 use Rattle.napi_types.specs.environment.SharedCalls.{without_root}
-use Rattle.napi_types.specs.hub.Hub.{Hub, Before, Going, Looped, Drained, stage_after, IsStageOf}
+use Rattle.napi_types.specs.hub.Hub.{Hub, Before, Live, LoopEnded, Drained, stage_after, IsStageOf}
 use Rattle.napi_types.specs.hub.HubEvents.{close_step, finish_step}
 use Rattle.napi_types.specs.hub.HubMoves.{Closes, Finishes, hub_move, is_spent}
 use Rattle.napi_types.specs.hub.HubOwners.{IsOwnedHub}
@@ -91,7 +91,7 @@ go-event core h next here far owned = record {
   sound = sound-phase core.env phase.Live phase.Init here refl (λ z. cc);
 }
 
-pub end-event : (core : Core) (h : Hub) (w : LoopEnd) → hub_event core.env h ≡ Some (EndsLoop w) → core.env.phase ≡ phase.Live → h.stage ≡ Going
+pub end-event : (core : Core) (h : Hub) (w : LoopEnd) → hub_event core.env h ≡ Some (EndsLoop w) → core.env.phase ≡ phase.Live → h.stage ≡ Live
     → IsOwnedHub core.env.addons h
     → IsPlainEvent core h (EndsLoop w) (host_entry host.LoopEnd (out.Ended w)) (in_phase phase.Hooks core.env)
 end-event core h w next here far owned = record {
@@ -112,7 +112,8 @@ end-event core h w next here far owned = record {
   sound = sound-phase core.env phase.Hooks phase.Live here refl (λ z. cc);
 }
 
-pub drain-event : (core : Core) (h : Hub) → hub_event core.env h ≡ Some Drains → core.env.phase ≡ phase.Hooks → h.stage ≡ Looped → IsOwnedHub core.env.addons h
+pub drain-event : (core : Core) (h : Hub) → hub_event core.env h ≡ Some Drains → core.env.phase ≡ phase.Hooks → h.stage ≡ LoopEnded
+    → IsOwnedHub core.env.addons h
     → IsPlainEvent core h Drains (host_entry host.Drain (out.Unsigned (length h.pool.queued))) (in_phase phase.Drain core.env)
 drain-event core h next here far owned = record {
   event = record {

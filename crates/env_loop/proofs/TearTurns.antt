@@ -11,7 +11,7 @@ use Rattle.napi_types.specs.parts.Hooks.{Hook, last_hook}
 use Rattle.napi_types.specs.environment.Changes.{in_phase}
 use Rattle.napi_types.specs.environment.Environment.{Environment}
 use Rattle.napi_types.specs.environment.Tickets.{ticket_in, next_ticket}
-use Rattle.napi_types.specs.hub.Hub.{Hub, Stage, Looped, Drained}
+use Rattle.napi_types.specs.hub.Hub.{Hub, Stage, LoopEnded, Drained}
 use Rattle.napi_types.specs.hub.HubEvents.{delivery_entry}
 use Rattle.napi_types.specs.hub.HubMoves.{HubMove, Delivers, Closes, Finishes, hub_move}
 use Rattle.napi_types.specs.runs.Choice.{local_choice_in, hub_choice, waiting_hooks}
@@ -52,7 +52,7 @@ IsTearing e = ((e.phase ≡ phase.Hooks) × (next_ticket e ≡ None)) ⊎ (e.pha
 
 -- the hub is then as far
 abbrev StageTears : Stage → Environment → Type 0
-StageTears s e = ((s ≡ Looped) × (e.phase ≡ phase.Hooks)) ⊎ ((s ≡ Drained) × (e.phase ≡ phase.Drain))
+StageTears s e = ((s ≡ LoopEnded) × (e.phase ≡ phase.Hooks)) ⊎ ((s ≡ Drained) × (e.phase ≡ phase.Drain))
 
 -- the event that a step of the teardown makes
 abbrev pub step_event : Environment → Hub → Option Event

@@ -19,7 +19,7 @@ use Rattle.napi_types.specs.parts.Hooks.{Hook, last_hook}
 use Rattle.napi_types.specs.environment.Changes.{number_of, call_change}
 use Rattle.napi_types.specs.environment.Entering.{asked_change}
 use Rattle.napi_types.specs.environment.Environment.{Environment}
-use Rattle.napi_types.specs.hub.Hub.{Stage, Going, Drained}
+use Rattle.napi_types.specs.hub.Hub.{Stage, Live, Drained}
 use Rattle.napi_types.specs.hub.HubMoves.{HubMove, Delivers, Closes, Finishes, hub_move}
 use Rattle.napi_types.specs.hub.HubEvents.{begin_step, delivery_entry}
 use Rattle.napi_types.specs.runs.Choice.{local_choice, local_choice_in, hub_choice, waiting_hooks}
@@ -132,7 +132,8 @@ own-begins m _ _ d x here alone (ends none) is may begins = absurd (none-begins 
 delivered : (m : Machine) (d e : Duty) (told : Option Duty) → told ≡ Some e → told ≡ Some d → d ≡ e
 delivered m d e told here there = let same : Some d ≡ Some e = sym there ∙ here in cc
 
-move-begins : (m : Machine) (move : HubMove) (d : Duty) (x : Entry) → m.env.frames ≡ [] → local_choice m.env ≡ None → (m.hub.stage ≡ Going) ⊎ (m.hub.stage ≡ Drained)
+move-begins : (m : Machine) (move : HubMove) (d : Duty) (x : Entry) → m.env.frames ≡ [] → local_choice m.env ≡ None
+    → (m.hub.stage ≡ Live) ⊎ (m.hub.stage ≡ Drained)
     → hub_move m.hub ≡ Some move → x ≡ (move_step m move).entry → IsTrue (event_step m (Moves move)).may → Begins x d → BeginsSo m d x
 move-begins m (Delivers info) d x alone none moment next is may begins =
     let entry : x ≡ delivery_entry info = is ∙ ap (λ o. (begin_step m.hub (delivery_entry info) o).entry) next in

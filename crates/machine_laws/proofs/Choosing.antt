@@ -24,7 +24,7 @@ use Rattle.napi_types.specs.environment.Changes.{number_of, may_ask}
 use Rattle.napi_types.specs.environment.Ends.{end_change}
 use Rattle.napi_types.specs.environment.Entering.{asked_change}
 use Rattle.napi_types.specs.environment.Environment.{Environment}
-use Rattle.napi_types.specs.hub.Hub.{IsStageOf, Hub, Stage, Before, Looped, Drained}
+use Rattle.napi_types.specs.hub.Hub.{IsStageOf, Hub, Stage, Before, LoopEnded, Drained}
 use Rattle.napi_types.specs.hub.HubEvents.{begin_step, delivery_entry}
 use Rattle.napi_types.specs.hub.HubMoves.{Delivers, Closes, Finishes, hub_move, is_spent}
 use Rattle.napi_types.specs.runs.Choice.{local_choice, hub_choice, choice, waiting_hooks}
@@ -268,7 +268,7 @@ is-drain _ is = cc
 
 record DrainsFrom (m : Machine) : Type 0 where
   pub none : local_choice m.env ≡ None
-  pub stage : m.hub.stage ≡ Looped
+  pub stage : m.hub.stage ≡ LoopEnded
 
 chosen-drain : (m : Machine) → choice m ≡ Some Drains → DrainsFrom m
 chosen-drain m is = by (chosen-by m Drains is)
@@ -276,14 +276,14 @@ chosen-drain m is = by (chosen-by m Drains is)
     own : (p : Phase) → OwnChoice m.env p Drains → ⊥
     own p o = elim o [ ]
 
-    looped : (s : Stage) → HubChoice m.hub (waiting_hooks m.env) s Drains → s ≡ Looped
+    looped : (s : Stage) → HubChoice m.hub (waiting_hooks m.env) s Drains → s ≡ LoopEnded
     looped _ drains = refl
 
     by : (local_choice m.env ≡ Some Drains) ⊎ ((local_choice m.env ≡ None) × (hub_choice m.hub (waiting_hooks m.env) ≡ Some Drains)) → DrainsFrom m
     by (inl mine) = absurd (own m.env.phase (own-choice m.env m.env.phase Drains mine))
     by (inr hubs) = record { none = hubs.0; stage = looped m.hub.stage (hub-choice m.hub (waiting_hooks m.env) m.hub.stage Drains hubs.1) }
 
-looped-hooks : (p : Phase) → IsStageOf p Looped → p ≡ phase.Hooks
+looped-hooks : (p : Phase) → IsStageOf p LoopEnded → p ≡ phase.Hooks
 looped-hooks phase.Hooks h = refl
 looped-hooks _ h = cc
 

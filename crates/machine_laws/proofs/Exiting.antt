@@ -25,7 +25,7 @@ use Rattle.napi_types.specs.environment.Ends.{end_change}
 use Rattle.napi_types.specs.environment.Entering.{asked_change}
 use Rattle.napi_types.specs.environment.Environment.{Environment}
 use Rattle.napi_types.specs.environment.SharedCalls.{shared_entry}
-use Rattle.napi_types.specs.hub.Hub.{IsStageOf, Stage, Going, Drained}
+use Rattle.napi_types.specs.hub.Hub.{IsStageOf, Stage, Live, Drained}
 use Rattle.napi_types.specs.hub.HubMoves.{HubMove, Delivers, Closes, Finishes, hub_move, is_idle, is_quiet}
 use Rattle.napi_types.specs.hub.HubEvents.{delivery_entry}
 use Rattle.napi_types.specs.hub.HubSteps.{hub_step}
@@ -225,16 +225,17 @@ late e _ asked moment = cc
 
 -- the stages in which the hub delivers
 abbrev delivers : Stage → Bool
-delivers Going = true
+delivers Live = true
 delivers Drained = true
 delivers _ = false
 
 -- it delivers nothing in the loop once exit was asked
-drain-delivers : (m : Machine) (p : Phase) → InPhase m → m.env.phase ≡ p → m.env.exit_asked ≡ true → NoChoice m.env p → (m.hub.stage ≡ Going) ⊎ (m.hub.stage ≡ Drained)
+drain-delivers : (m : Machine) (p : Phase) → InPhase m → m.env.phase ≡ p → m.env.exit_asked ≡ true → NoChoice m.env p
+    → (m.hub.stage ≡ Live) ⊎ (m.hub.stage ≡ Drained)
     → p ≡ phase.Drain
 drain-delivers m p far here asked none moment = by p m.hub.stage (stage-in m p far here) none (now moment)
   where
-    now : (m.hub.stage ≡ Going) ⊎ (m.hub.stage ≡ Drained) → delivers m.hub.stage ≡ true
+    now : (m.hub.stage ≡ Live) ⊎ (m.hub.stage ≡ Drained) → delivers m.hub.stage ≡ true
     now (inl is) = ap delivers is
     now (inr is) = ap delivers is
 

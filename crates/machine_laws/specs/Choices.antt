@@ -20,7 +20,7 @@ use Rattle.napi_types.specs.parts.Book.{Book, Registration, is_registered, is_du
 use Rattle.napi_types.specs.parts.Frames.{Frame, frame_of_duty, begin_told, is_hub_duty}
 use Rattle.napi_types.specs.parts.Hooks.{Hook, last_hook}
 use Rattle.napi_types.specs.environment.Environment.{Environment}
-use Rattle.napi_types.specs.hub.Hub.{IsStageOf, Hub, Going, Drained, Final, stage_after}
+use Rattle.napi_types.specs.hub.Hub.{IsStageOf, Hub, Live, Drained, Final, stage_after}
 use Rattle.napi_types.specs.hub.HubCalls.{is_thread_call}
 use Rattle.napi_types.specs.hub.HubEvents.{delivery_entry}
 use Rattle.napi_types.specs.hub.HubMoves.{Delivers, hub_move, is_spent}
@@ -193,7 +193,7 @@ pub record BeginsOfHub (m : Machine) (d : Duty) (x : Entry) : Type 0 where
   pub ours : is_hub_duty (Some d) ≡ true
   pub alone : m.env.frames ≡ []
   pub waits : local_choice m.env ≡ None
-  pub moment : (m.hub.stage ≡ Going) ⊎ (m.hub.stage ≡ Drained)
+  pub moment : (m.hub.stage ≡ Live) ⊎ (m.hub.stage ≡ Drained)
   pub next : hub_move m.hub ≡ Some (Delivers info)
   pub entry : x ≡ delivery_entry info
 

@@ -18,7 +18,7 @@ use Rattle.napi_types.specs.plain.Lists.{found, has_number}
 use Rattle.napi_types.specs.parts.Pool.{executed_by, number_of_work, cancelled_at}
 use Rattle.napi_types.specs.parts.Works.{Execution}
 use Rattle.napi_types.specs.hub.HistoryLaws.{KeepsStanding}
-use Rattle.napi_types.specs.hub.Hub.{Hub, Before, Going, Looped, Drained, stage_after, left_of}
+use Rattle.napi_types.specs.hub.Hub.{Hub, Before, Live, LoopEnded, Drained, stage_after, left_of}
 use Rattle.napi_types.specs.hub.HubMoves.{without_duty}
 use Rattle.napi_types.specs.hub.ThreadSteps.{is_thread_there, is_gone_on}
 use Rattle.napi_types.specs.hub.WorkerSteps.{is_worker_there}
@@ -35,13 +35,14 @@ timely true false failure late = refl
 timely false registers failure late = refl
 
 -- GREAT EVENTS
-pub gone-on : {old new : HubSeen} → AddsEntry old (host_entry host.Go out.Nothing) new → old.hub.stage ≡ Before → new.hub.stage ≡ Going
+pub gone-on : {old new : HubSeen} → AddsEntry old (host_entry host.Go out.Nothing) new → old.hub.stage ≡ Before → new.hub.stage ≡ Live
 gone-on a first = ap (λ (h : Hub). h.stage) a.hub ∙ ap (λ s. unwrap_or (stage_after s host.Go) s) first
 
-pub looped-on : {old new : HubSeen} (why : LoopEnd) → AddsEntry old (host_entry host.LoopEnd (out.Ended why)) new → old.hub.stage ≡ Going → new.hub.stage ≡ Looped
+pub looped-on : {old new : HubSeen} (why : LoopEnd) → AddsEntry old (host_entry host.LoopEnd (out.Ended why)) new → old.hub.stage ≡ Live
+    → new.hub.stage ≡ LoopEnded
 looped-on why a going = ap (λ (h : Hub). h.stage) a.hub ∙ ap (λ s. unwrap_or (stage_after s host.LoopEnd) s) going
 
-pub drained-on : {old new : HubSeen} → AddsEntry old (host_entry host.Drain (out.Unsigned (length old.hub.pool.queued))) new → old.hub.stage ≡ Looped
+pub drained-on : {old new : HubSeen} → AddsEntry old (host_entry host.Drain (out.Unsigned (length old.hub.pool.queued))) new → old.hub.stage ≡ LoopEnded
     → new.hub.stage ≡ Drained
 drained-on a looped = ap (λ (h : Hub). h.stage) a.hub ∙ ap (λ s. unwrap_or (stage_after s host.Drain) s) looped
 

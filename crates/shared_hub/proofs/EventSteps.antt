@@ -21,7 +21,7 @@ use Rattle.napi_types.specs.parts.Functions.{closed, finished}
 use Rattle.napi_types.specs.parts.Pool.{WorkPool, drained, work_numbered, executed_by, value_of_work, with_started, started_from, with_finished}
 use Rattle.napi_types.specs.parts.Works.{Work}
 use Rattle.napi_types.specs.hub.HistoryLaws.{KeepsStanding}
-use Rattle.napi_types.specs.hub.Hub.{Hub, Before, Going, Looped, Drained, stage_after}
+use Rattle.napi_types.specs.hub.Hub.{Hub, Before, Live, LoopEnded, Drained, stage_after}
 use Rattle.napi_types.specs.hub.HubEvents.{staged, drained_hub, may_move, is_moving, delivery_entry, begin_step, close_step, finish_step, frame_end_step, is_frame_end}
 use Rattle.napi_types.specs.hub.HubMoves.{HubMove, Delivers, Closes, Finishes, hub_move, in_tsfn, in_pool, with_delivered, without_duty}
 use Rattle.napi_types.specs.hub.HubStep.{actor_told}
@@ -63,13 +63,14 @@ go-comes h stage alone = record {
   after = refl;
 }
 
-pub loop-ends : (h : Hub) (w : LoopEnd) → h.stage ≡ Going → h.standing ≡ None → ComesNext h (host_entry host.LoopEnd (out.Ended w)) (staged host.LoopEnd h)
+pub loop-ends : (h : Hub) (w : LoopEnd) → h.stage ≡ Live → h.standing ≡ None → ComesNext h (host_entry host.LoopEnd (out.Ended w)) (staged host.LoopEnd h)
 loop-ends h w stage alone = record {
   next = record { entry = refl; may = and-both _ _ (ap (λ s. is_some (stage_after s host.LoopEnd)) stage) (ap is_none alone) };
   after = refl;
 }
 
-pub drain-comes : (h : Hub) → h.stage ≡ Looped → h.standing ≡ None → ComesNext h (host_entry host.Drain (out.Unsigned (length h.pool.queued))) (staged host.Drain (drained_hub h))
+pub drain-comes : (h : Hub) → h.stage ≡ LoopEnded → h.standing ≡ None
+    → ComesNext h (host_entry host.Drain (out.Unsigned (length h.pool.queued))) (staged host.Drain (drained_hub h))
 drain-comes h stage alone = record {
   next = record { entry = refl; may = and-both _ _ (ap (λ s. is_some (stage_after s host.Drain)) stage) (ap is_none alone) };
   after = refl;

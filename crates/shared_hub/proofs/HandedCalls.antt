@@ -18,9 +18,9 @@ use Rattle.napi_types.specs.plain.Replies.{plain}
 use Rattle.napi_types.specs.plain.Room.{need}
 use Rattle.napi_types.specs.parts.Functions.{FunctionState, is_open, is_full_queue, call_status}
 use Rattle.napi_types.specs.parts.Pool.{WorkPool}
-use Rattle.napi_types.specs.hub.GivenSteps.{is_looped, fits_stage, is_fresh_work, work_number, answer_unless_given}
+use Rattle.napi_types.specs.hub.GivenSteps.{has_loop_ended, fits_stage, is_fresh_work, work_number, answer_unless_given}
 use Rattle.napi_types.specs.hub.HistoryRoom.{reserved_history}
-use Rattle.napi_types.specs.hub.Hub.{Hub, Stage, Before, Going, Looped, Drained, Final, new_hub, is_past_drain}
+use Rattle.napi_types.specs.hub.Hub.{Hub, Stage, Before, Live, LoopEnded, Drained, Final, new_hub, is_past_drain}
 use Rattle.napi_types.specs.hub.HubCalls.{hub_answer, tsfn_at, call_answer, called_answer, is_thread_call}
 use Rattle.napi_types.specs.hub.HubStep.{answered_step}
 use Rattle.napi_types.specs.hub.ThreadSteps.{is_thread_there, nothing_given}
@@ -145,10 +145,10 @@ env-never-waits old new g c shared waits = by c shared (waits.none (new_hub 0 0)
 pub timely-queues : (stage : Stage) (c : Call) (p : HubParts) → p.pool.closing ≡ is_past_drain stage → IsTrue (fits_stage stage c None) → MayQueue c p
 timely-queues stage (call.QueueAsyncWork w) p closes timely = closes ∙ by stage timely
   where
-    by : (s : Stage) → IsTrue (not (is_looped s && true) || false) → is_past_drain s ≡ false
+    by : (s : Stage) → IsTrue (not (has_loop_ended s && true) || false) → is_past_drain s ≡ false
     by Before t = refl
-    by Going t = refl
-    by Looped t = refl
+    by Live t = refl
+    by LoopEnded t = refl
     by Drained t = cc
     by Final t = cc
 timely-queues stage (call.CreateAsyncWork job entry payload) p closes timely = tt

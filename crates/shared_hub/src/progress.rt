@@ -12,9 +12,9 @@ pub enum HubStage {
     /// None.
     Before,
     /// `go`.
-    Going,
+    Live,
     /// `loop_end`.
-    Looped,
+    LoopEnded,
     /// `drain`.
     Drained,
     /// `finals`.
@@ -54,8 +54,8 @@ impl HubProgress {
     {
         let events = match self.stage {
             HubStage::Before => 4,
-            HubStage::Going => 3,
-            HubStage::Looped => 2,
+            HubStage::Live => 3,
+            HubStage::LoopEnded => 2,
             HubStage::Drained => 1,
             HubStage::Final => 0,
         };
@@ -83,7 +83,7 @@ impl HubProgress {
     {
         match self.stage {
             HubStage::Before | HubStage::Final => false,
-            HubStage::Going | HubStage::Looped | HubStage::Drained => true,
+            HubStage::Live | HubStage::LoopEnded | HubStage::Drained => true,
         }
     }
 

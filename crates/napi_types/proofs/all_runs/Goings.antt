@@ -11,7 +11,7 @@ use Rattle.napi_types.specs.plain.Entries.{host_entry}
 use Rattle.napi_types.specs.parts.Book.{Registration, TicketState, registration_at, lowest_due, is_at, is_due, may_begin_in}
 use Rattle.napi_types.specs.parts.Hooks.{Hook, last_hook}
 use Rattle.napi_types.specs.environment.Hooked.{is_from_finals_on, IsHooked}
-use Rattle.napi_types.specs.hub.Hub.{Stage, Before, Going, Looped, Drained, Final, stage_after, IsStageOf}
+use Rattle.napi_types.specs.hub.Hub.{Stage, Before, Live, LoopEnded, Drained, Final, stage_after, IsStageOf}
 use Rattle.napi_types.specs.hub.HubEvents.{begin_step, close_step, finish_step, delivery_entry, is_moving}
 use Rattle.napi_types.specs.hub.HubMoves.{HubMove, Delivers, Closes, Finishes, hub_move, idle_reason, is_idle, is_quiet, is_spent}
 use Rattle.napi_types.specs.runs.Choice.{choice, local_choice_in, hub_choice, hub_choice_at, finals_choice, waiting_hooks}
@@ -59,13 +59,14 @@ move-may m (Finishes n) next moving alone =
 abbrev May : Machine → Option Event → Type 0
 May m o = IfSome o (λ event. IsTrue (event_step m event).may)
 
-idle-may : (m : Machine) (idle quiet : Bool) → m.hub.stage ≡ Going → m.hub.standing ≡ None
+idle-may : (m : Machine) (idle quiet : Bool) → m.hub.stage ≡ Live → m.hub.standing ≡ None
     → May m (option_map EndsLoop (cond idle (Some loop_end.Idle) (cond quiet (Some loop_end.Quiet) None)))
-idle-may m true quiet far alone = great m host.LoopEnd Going far alone refl
-idle-may m false true far alone = great m host.LoopEnd Going far alone refl
+idle-may m true quiet far alone = great m host.LoopEnd Live far alone refl
+idle-may m false true far alone = great m host.LoopEnd Live far alone refl
 idle-may m false false far alone = tt
 
-going-may : (m : Machine) (o : Option HubMove) → hub_move m.hub ≡ o → m.hub.stage ≡ Going → m.hub.standing ≡ None → May m (option_or (option_map Moves o) (option_map EndsLoop (idle_reason m.hub)))
+going-may : (m : Machine) (o : Option HubMove) → hub_move m.hub ≡ o → m.hub.stage ≡ Live → m.hub.standing ≡ None
+    → May m (option_or (option_map Moves o) (option_map EndsLoop (idle_reason m.hub)))
 going-may m (Some move) next far alone = move-may m move next (ap is_moving far) alone
 going-may m None next far alone = idle-may m (is_idle m.hub) (is_quiet m.hub) far alone
 
@@ -74,17 +75,18 @@ init-may m false c far alone = refl
 init-may m true true far alone = refl
 init-may m true false far alone = great m host.Go Before far alone refl
 
-live-may : (m : Machine) (exit : Bool) (o : Option ℕ) → lowest_due m.env.book ≡ o → m.env.phase ≡ phase.Live → m.hub.stage ≡ Going → m.hub.standing ≡ None
-    → May m (option_or (cond exit (Some (EndsLoop loop_end.Exit)) (option_map Tickets o)) (hub_choice_at m.hub (waiting_hooks m.env) Going))
-live-may m true o lowest here far alone = great m host.LoopEnd Going far alone refl
+live-may : (m : Machine) (exit : Bool) (o : Option ℕ) → lowest_due m.env.book ≡ o → m.env.phase ≡ phase.Live → m.hub.stage ≡ Live → m.hub.standing ≡ None
+    → May m (option_or (cond exit (Some (EndsLoop loop_end.Exit)) (option_map Tickets o)) (hub_choice_at m.hub (waiting_hooks m.env) Live))
+live-may m true o lowest here far alone = great m host.LoopEnd Live far alone refl
 live-may m false (Some n) lowest here far alone = due-may phase.Live m n here (λ s. refl) lowest
 live-may m false None lowest here far alone = going-may m (hub_move m.hub) refl far alone
 
-hooks-may : (m : Machine) (o : Option Hook) → last_hook m.env.hooks ≡ o → IsHooked m.env → m.env.phase ≡ phase.Hooks → m.hub.stage ≡ Looped → m.hub.standing ≡ None
-    → May m (option_or (option_map Tickets (option_map (λ (h : Hook). h.ticket) o)) (hub_choice_at m.hub (waiting_hooks m.env) Looped))
+hooks-may : (m : Machine) (o : Option Hook) → last_hook m.env.hooks ≡ o → IsHooked m.env → m.env.phase ≡ phase.Hooks → m.hub.stage ≡ LoopEnded
+    → m.hub.standing ≡ None
+    → May m (option_or (option_map Tickets (option_map (λ (h : Hook). h.ticket) o)) (hub_choice_at m.hub (waiting_hooks m.env) LoopEnded))
 hooks-may m (Some h) last hooked here far alone =
     ticket-may phase.Hooks m h.ticket here (hook-registered m.env h hooked (ap is_from_finals_on here) last)
-hooks-may m None last hooked here far alone = great m host.Drain Looped far alone refl
+hooks-may m None last hooked here far alone = great m host.Drain LoopEnded far alone refl
 
 drained-may : (m : Machine) (o : Option HubMove) → hub_move m.hub ≡ o → m.hub.stage ≡ Drained → m.hub.standing ≡ None → May m (option_or (option_map Moves o) (finals_choice m.hub))
 drained-may m (Some move) next far alone = move-may m move next (ap is_moving far) alone
@@ -109,9 +111,9 @@ phase-may : (m : Machine) (p : Phase) → m.env.phase ≡ p → IsStageOf p m.hu
 phase-may m phase.Init here far hooked alone =
     at-stage m Before (local_choice_in m.env phase.Init) far (init-may m m.env.opened (nat_lt m.env.inits m.env.addons) far alone)
 phase-may m phase.Live here far hooked alone =
-    at-stage m Going (local_choice_in m.env phase.Live) far (live-may m m.env.exit_asked (lowest_due m.env.book) refl here far alone)
+    at-stage m Live (local_choice_in m.env phase.Live) far (live-may m m.env.exit_asked (lowest_due m.env.book) refl here far alone)
 phase-may m phase.Hooks here far hooked alone =
-    at-stage m Looped (local_choice_in m.env phase.Hooks) far (hooks-may m (last_hook m.env.hooks) refl hooked here far alone)
+    at-stage m LoopEnded (local_choice_in m.env phase.Hooks) far (hooks-may m (last_hook m.env.hooks) refl hooked here far alone)
 phase-may m phase.Drain here far hooked alone = at-stage m Drained None far (drained-may m (hub_move m.hub) refl far alone)
 phase-may m phase.Finals here far hooked alone =
     at-stage m Final (local_choice_in m.env phase.Finals) far (finals-may m (lowest_due m.env.book) refl here)

@@ -27,7 +27,7 @@ use Rattle.napi_types.specs.environment.Entering.{asked_change}
 use Rattle.napi_types.specs.environment.Environment.{Environment}
 use Rattle.napi_types.specs.environment.JournalRoom.{gone_place, reserved_journal, journal_room}
 use Rattle.napi_types.specs.environment.SharedCalls.{shared_entry, after_shared}
-use Rattle.napi_types.specs.hub.Hub.{IsStageOf, Stage, Before, Going, Looped, Drained}
+use Rattle.napi_types.specs.hub.Hub.{IsStageOf, Stage, Before, Live, LoopEnded, Drained}
 use Rattle.napi_types.specs.hub.HubMoves.{HubMove, Delivers, Closes, Finishes, hub_move}
 use Rattle.napi_types.specs.hub.HubSteps.{hub_step}
 use Rattle.napi_types.specs.runs.CallRoom.{room_of}
@@ -246,7 +246,7 @@ later-inits Enough l m p e n r = r.inits (ap is_init e ∙ n)
 loop-ended-room : (Enough : Type 0) (l : Limits) (m : Machine) (w : LoopEnd) → m.env.phase ≡ phase.Live → Roomy Enough l m
     → Roomy Enough l (event_step m (EndsLoop w)).after
 loop-ended-room Enough l m w e r =
-    passed-room Enough l m host.LoopEnd phase.Hooks (out.Ended w) (stage-moved m host.LoopEnd Going (stage-in m phase.Live r.stage e)) (rw e refl) (λ q. cc)
+    passed-room Enough l m host.LoopEnd phase.Hooks (out.Ended w) (stage-moved m host.LoopEnd Live (stage-in m phase.Live r.stage e)) (rw e refl) (λ q. cc)
     (later-opened Enough l m phase.Live e refl r) (later-inits Enough l m phase.Live e refl r) r
 
 not-gone : (e : Environment) (p : Phase) → e.phase ≡ p → p ≢ phase.Gone → e.phase ≢ phase.Gone
@@ -310,7 +310,7 @@ hub-room Enough l m _ _ _ e far shown (choices.quiets none busy quiet) (choices.
 hub-room Enough l m _ _ _ e far shown (choices.moves_in_loop move next) (choices.waits unasked lowest) r =
     move-room Enough l m move next (not-gone m.env phase.Live e (λ q. cc)) r
 hub-room Enough l m _ _ _ e far shown choices.drains (choices.unhooked none) r =
-    passed-room Enough l m host.Drain phase.Drain (out.Unsigned (length m.hub.pool.queued)) (stage-moved m host.Drain Looped far) (rw e refl) (λ q. cc)
+    passed-room Enough l m host.Drain phase.Drain (out.Unsigned (length m.hub.pool.queued)) (stage-moved m host.Drain LoopEnded far) (rw e refl) (λ q. cc)
     (later-opened Enough l m phase.Hooks e refl r) (later-inits Enough l m phase.Hooks e refl r) r
 hub-room Enough l m _ _ _ e far shown (choices.finals none spent) choices.drained r =
     passed-room Enough l m host.Finals phase.Finals out.Nothing (stage-moved m host.Finals Drained far) (rw e refl) (λ q. cc)

@@ -12,7 +12,7 @@ use Rattle.napi_types.specs.declared.entry.Phase.TheVariants as phase
 use Rattle.napi_types.specs.plain.Lists.{is_empty}
 use Rattle.napi_types.specs.parts.Pool.{executed_by, value_of_work}
 use Rattle.napi_types.specs.environment.Environment.{Environment}
-use Rattle.napi_types.specs.hub.Hub.{Hub, Stage, Before, Going, Looped, Drained, Final, is_past_drain, IsStageOf}
+use Rattle.napi_types.specs.hub.Hub.{Hub, Stage, Before, Live, LoopEnded, Drained, Final, is_past_drain, IsStageOf}
 use Rattle.napi_types.specs.hub.HubMoves.{HubMove, hub_move, is_idle, is_quiet, is_spent}
 use Rattle.napi_types.specs.hub.HubStep.{actor_told}
 use Rattle.napi_types.specs.hub.Waits.{ThreadGoesOn, WorkerGoesOn, SomebodyGoesOn}
@@ -51,10 +51,10 @@ module _ (h : Hub) (waiting : ℕ) (shut : IsShut h) (staffed : IsStaffed h) (se
   -- by how far the hub is
   stage-goes : (s : Stage) → h.stage ≡ s → s ≢ Final → hub_choice_at h waiting s ≡ None → SomebodyGoesOn h
   stage-goes Before far never none = cc
-  stage-goes Going far never none =
+  stage-goes Live far never none =
       loop-goes-on h (unmoved (hub_move h) _ none) (rw far refl) (shut ∙ ap is_past_drain far) staffed serving
       (not-quiet (hub_move h) (is_idle h) (is_quiet h) none)
-  stage-goes Looped far never none = cc
+  stage-goes LoopEnded far never none = cc
   stage-goes Drained far never none =
       drained-goes-on h (unmoved (hub_move h) _ none) (rw far refl) (shut ∙ ap is_past_drain far) serving (not-spent (hub_move h) (is_spent h) none)
   stage-goes Final far never none = absurd (never refl)

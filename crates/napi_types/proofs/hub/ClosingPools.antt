@@ -8,7 +8,7 @@ use Rattle.napi_types.specs.declared.entry.HostStep.TheVariants as host
 use Rattle.napi_types.specs.declared.entry.Out.{Out}
 use Rattle.napi_types.specs.parts.Pool.{WorkPool, cancelled_at, number_of_work, started_from, finished_at, executed_by}
 use Rattle.napi_types.specs.hub.HistoryLaws.{PoolsCloseAtTheDrain}
-use Rattle.napi_types.specs.hub.Hub.{Hub, Stage, Before, Going, Looped, Drained, new_hub, stage_after, is_past_drain}
+use Rattle.napi_types.specs.hub.Hub.{Hub, Stage, Before, Live, LoopEnded, Drained, new_hub, stage_after, is_past_drain}
 use Rattle.napi_types.specs.hub.HubMoves.{without_duty}
 use Rattle.napi_types.specs.hub.HubSteps.{hub_step, hub_along}
 use Rattle.napi_types.specs.hub.Replays.{HubReplays}
@@ -41,11 +41,11 @@ go-past Before is = refl
 go-past _ is = cc
 
 loop-past : (s : Stage) → is_some (stage_after s host.LoopEnd) ≡ true → is_past_drain (unwrap_or (stage_after s host.LoopEnd) s) ≡ is_past_drain s
-loop-past Going is = refl
+loop-past Live is = refl
 loop-past _ is = cc
 
 drain-past : (s : Stage) → is_some (stage_after s host.Drain) ≡ true → is_past_drain (unwrap_or (stage_after s host.Drain) s) ≡ true
-drain-past Looped is = refl
+drain-past LoopEnded is = refl
 drain-past _ is = cc
 
 finals-past : (s : Stage) → is_some (stage_after s host.Finals) ≡ true → is_past_drain (unwrap_or (stage_after s host.Finals) s) ≡ is_past_drain s

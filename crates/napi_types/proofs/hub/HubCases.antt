@@ -31,7 +31,7 @@ use Rattle.napi_types.specs.hub.Hub.{Hub, stage_after, threads_left, workers_lef
 use Rattle.napi_types.specs.hub.HubCalls.{unless_refused, on_function, tsfn_at, call_answer, called_answer, with_function, hub_answer, is_thread_call}
 use Rattle.napi_types.specs.hub.HubMoves.{HubMove, Delivers, Closes, Finishes, hub_move, in_pool, in_tsfn, with_delivered}
 use Rattle.napi_types.specs.hub.HubStep.{HubStep, answered_step}
-use Rattle.napi_types.specs.hub.GivenSteps.{is_looped, is_failure, fits_stage, is_fresh_work, work_number, answer_unless_given, given_step}
+use Rattle.napi_types.specs.hub.GivenSteps.{has_loop_ended, is_failure, fits_stage, is_fresh_work, work_number, answer_unless_given, given_step}
 use Rattle.napi_types.specs.hub.HubEvents.{environment_event, staged, drained_hub, loop_end_step, begin_step, close_step, finish_step, frame_end_step}
 use Rattle.napi_types.specs.hub.ThreadSteps.{is_thread_there, nothing_given, thread_step, thread_event}
 use Rattle.napi_types.specs.hub.WorkerSteps.{worker_step, worker_event, start_step, work_end_step}
@@ -56,11 +56,11 @@ pub data HubCase (h : Hub) (x : Entry) (told : Out) : Hub → Type 0 where
       → told ≡ out.Work (record { 0 = work_number x.reply.out }) → HubCase h x told (in_pool (with_work (work_number x.reply.out) job addon entry payload) h)
   deletes_work : (w : WorkId) → x.what ≡ what.Call (call.DeleteAsyncWork w) → work_refusal is_deletable h.pool w.0 ≡ None → HubCase h x told (in_pool (without_work w.0) h)
   cancels_work : (w : WorkId) → x.what ≡ what.Call (call.CancelAsyncWork w) → work_refusal is_queued h.pool w.0 ≡ None → HubCase h x told (in_pool (with_cancelled w.0) h)
-  queues_work : (w : WorkId) → x.what ≡ what.Call (call.QueueAsyncWork w) → work_refusal is_created h.pool w.0 ≡ None → is_looped h.stage ≡ false
+  queues_work : (w : WorkId) → x.what ≡ what.Call (call.QueueAsyncWork w) → work_refusal is_created h.pool w.0 ≡ None → has_loop_ended h.stage ≡ false
       → HubCase h x told (in_pool (with_queued w.0) h)
   -- and one on functions
   creates_function : (f : Option HandleId) (entry : Option ℕ) (maximum count : ℕ) (finalizer : Option ℕ) (context addon : ℕ) (target : Target)
-      → x.what ≡ what.Call (call.CreateThreadsafeFunction f entry maximum count finalizer context) → is_looped h.stage ≡ false
+      → x.what ≡ what.Call (call.CreateThreadsafeFunction f entry maximum count finalizer context) → has_loop_ended h.stage ≡ false
       → HubCase h x told (with_function addon target maximum count finalizer context h)
   alters : (c : Call) (n : ℕ) (f : FunctionState) (change : FunctionState → FunctionState) → x.what ≡ what.Call c → tsfn_at h n ≡ Some f → Alters f c change
       → HubCase h x told (in_tsfn f.id change h)
@@ -115,7 +115,7 @@ calls-case h x n payload m who (Some f) is there = by (call_status who m f) refl
 
 -- what the answer to a call leaves; works and functions are made only before the loop ends
 answer-case : (h : Hub) (x : Entry) (who : Actor) (g : Given) (c : Call) → x.what ≡ what.Call c → is_fresh_work h x.reply.out ≡ true
-    → (is_thread_call c ≡ false → is_registering c ≡ true → is_looped h.stage ≡ false) → AnswersWell h x (hub_answer h who g c (work_number x.reply.out))
+    → (is_thread_call c ≡ false → is_registering c ≡ true → has_loop_ended h.stage ≡ false) → AnswersWell h x (hub_answer h who g c (work_number x.reply.out))
 answer-case h x who g (call.CreateAsyncWork job entry payload) is fresh early = creates_work job entry payload g.addon is fresh refl
 answer-case h x who g (call.DeleteAsyncWork w) is fresh early =
     unless-case h x (work_refusal is_deletable h.pool w.0) _ _ (call.DeleteAsyncWork w) is refl refl (λ none. deletes_work w is none)
@@ -159,7 +159,7 @@ given-case h x c (Some g) is =
     by true true true shared t fresh may (Some s) told = asks c is shared
     by true true true shared t fresh may None told =
         answer-case h x actor.Env g c is fresh
-        (λ thread registers. timely (is_looped h.stage) (is_registering c) (sym (ap (λ o. not (is_looped h.stage && is_registering c) || is_failure o) told) ∙ t) registers)
+        (λ thread registers. timely (has_loop_ended h.stage) (is_registering c) (sym (ap (λ o. not (has_loop_ended h.stage && is_registering c) || is_failure o) told) ∙ t) registers)
     by false t f shared t' fresh may refused told = cc
     by true false f shared t' fresh may refused told = cc
     by true true false shared t' fresh may refused told = cc

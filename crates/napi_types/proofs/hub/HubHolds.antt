@@ -24,10 +24,10 @@ use Rattle.napi_types.specs.parts.Pool.{work_numbered, completion_info, first_co
 use Rattle.napi_types.specs.parts.Works.{Work, Outcome}
 use Rattle.napi_types.specs.hub.HistoryLaws.{LeadsTo}
 use Rattle.napi_types.specs.hub.HistoryRoom.{function_places, reserved_history}
-use Rattle.napi_types.specs.hub.Hub.{stage_places, Hub, Stage, Before, Going, Looped, Drained, Final, new_hub, stage_after, is_past_drain, threads_left, workers_left}
+use Rattle.napi_types.specs.hub.Hub.{stage_places, Hub, Stage, Before, Live, LoopEnded, Drained, Final, new_hub, stage_after, is_past_drain, threads_left, workers_left}
 use Rattle.napi_types.specs.hub.HubCalls.{new_function_number}
 use Rattle.napi_types.specs.hub.HubMoves.{HubMove, Delivers, Closes, Finishes, tsfn_move_in, tsfn_move, first_move, hub_move, in_tsfn, without_duty, with_delivered, is_spent}
-use Rattle.napi_types.specs.hub.GivenSteps.{is_looped, is_fresh_work, work_number}
+use Rattle.napi_types.specs.hub.GivenSteps.{has_loop_ended, is_fresh_work, work_number}
 use Rattle.napi_types.specs.hub.HubEvents.{staged}
 use Rattle.napi_types.specs.hub.HubSteps.{IsHubNext, hub_step, hub_along}
 use Rattle.napi_types.specs.hub.Replays.{HubReplays}
@@ -37,7 +37,7 @@ use Rattle.napi_types.proofs.hub.HubFunctions.{is_over, IsSound, AreSoundFrom, f
 use Rattle.napi_types.proofs.hub.HubPools.{PoolSound, created-sound, deleted-sound, cancelled-sound, queued-sound, started-sound, worked-sound, completed-sound, drained-sound, fewer-late, finished-there}
 use Rattle.napi_types.proofs.hub.HubRooms.{WhatMoves, what-moves, move-of_function, completion-completes, late-room}
 
-drained-looped : (s : Stage) → is_looped s ≡ false → is_past_drain s ≡ true → ⊥
+drained-looped : (s : Stage) → has_loop_ended s ≡ false → is_past_drain s ≡ true → ⊥
 drained-looped Before early late = cc
 drained-looped _ early late = cc
 
@@ -52,8 +52,8 @@ is_draining _ = false
 -- no other great event is the drain
 still-late : (s : Stage) (event : HostStep) → is_draining event ≡ false → is_some (stage_after s event) ≡ true → is_past_drain (unwrap_or (stage_after s event) s) ≡ true → is_past_drain s ≡ true
 still-late Before host.Go other comes late = cc
-still-late Going host.LoopEnd other comes late = cc
-still-late Looped host.Drain other comes late = cc
+still-late Live host.LoopEnd other comes late = cc
+still-late LoopEnded host.Drain other comes late = cc
 still-late Drained host.Finals other comes late = refl
 still-late _ _ other comes late = cc
 
@@ -273,8 +273,8 @@ is_ending _ = false
 
 not-final : (s : Stage) (event : HostStep) → is_ending event ≡ false → is_some (stage_after s event) ≡ true → unwrap_or (stage_after s event) s ≡ Final → ⊥
 not-final Before host.Go other comes final = cc
-not-final Going host.LoopEnd other comes final = cc
-not-final Looped host.Drain other comes final = cc
+not-final Live host.LoopEnd other comes final = cc
+not-final LoopEnded host.Drain other comes final = cc
 not-final Drained host.Finals other comes final = cc
 not-final _ _ other comes final = cc
 
@@ -291,7 +291,7 @@ pub spent-holds : (h : Hub) (x : Entry) (told : Out) (n : Hub) → HubSound h �
 spent-holds h x told n s finals before case final =
     elim (kept-final h x told n case final) [
       | inl here ↦ no-more (reserved_history n) (reserved_history h)
-          (late-room (is_past_drain h.stage) h x told n (ap is_past_drain here) (ap is_looped here) s.functions case) (before here)
+          (late-room (is_past_drain h.stage) h x told n (ap is_past_drain here) (ap has_loop_ended here) s.functions case) (before here)
       | inr came ↦ let spent = finals came.is in ap reserved_history came.hub ∙ finals-places h s spent.0 spent.1 came.may
     ]
   where

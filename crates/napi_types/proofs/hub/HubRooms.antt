@@ -22,10 +22,10 @@ use Rattle.napi_types.specs.parts.Functions.{FunctionState, new_function, called
 use Rattle.napi_types.specs.parts.Pool.{WorkPool, work_at, work_numbered, number_of_work, executed_by, standing_at, work_state, work_refusal, state_refusal, with_work, without_work, with_queued, cancelled_at, with_cancelled, with_started, started_from, with_finished, finished_at, with_completed, first_completion, completion_info, drained}
 use Rattle.napi_types.specs.parts.Works.{Work, WorkState, Created, Queued, Running, Finished, Completed, Execution, Outcome, is_queued, cancelled_outcome}
 use Rattle.napi_types.specs.hub.HistoryRoom.{work_places, function_places, reserved_history}
-use Rattle.napi_types.specs.hub.Hub.{stage_places, Hub, Stage, Before, Going, Looped, Drained, stage_after, left_of, threads_left, workers_left}
+use Rattle.napi_types.specs.hub.Hub.{stage_places, Hub, Stage, Before, Live, LoopEnded, Drained, stage_after, left_of, threads_left, workers_left}
 use Rattle.napi_types.specs.hub.HubCalls.{new_function_number}
 use Rattle.napi_types.specs.hub.HubMoves.{HubMove, Delivers, Closes, Finishes, first_move, hub_move, in_pool, in_tsfn, without_duty, with_delivered}
-use Rattle.napi_types.specs.hub.GivenSteps.{is_looped, work_number}
+use Rattle.napi_types.specs.hub.GivenSteps.{has_loop_ended, work_number}
 use Rattle.napi_types.specs.hub.HubEvents.{staged, drained_hub}
 use Rattle.napi_types.proofs.plain.Conditions.{and-left}
 use Rattle.napi_types.proofs.plain.Found.{has-found, has-with_number, turned}
@@ -223,8 +223,8 @@ in-function-room late h f change a b among fits =
 -- A GREAT EVENT
 stage-falls : (s : Stage) (event : HostStep) → is_some (stage_after s event) ≡ true → stage_places (unwrap_or (stage_after s event) s) + 1 ≡ stage_places s
 stage-falls Before host.Go comes = refl
-stage-falls Going host.LoopEnd comes = refl
-stage-falls Looped host.Drain comes = refl
+stage-falls Live host.LoopEnd comes = refl
+stage-falls LoopEnded host.Drain comes = refl
 stage-falls Drained host.Finals comes = refl
 stage-falls _ _ comes = cc
 
@@ -396,7 +396,8 @@ called-late f payload status.Ok never = absurd (never refl)
 called-late f payload status.Closing never = omega arith
 called-late f payload _ never = omega arith
 
-pub late-room : (late : Bool) (h : Hub) (x : Entry) (told : Out) (n : Hub) → late ≡ true → is_looped h.stage ≡ true → AreSoundFrom late 1 h.functions → HubCase h x told n
+pub late-room : (late : Bool) (h : Hub) (x : Entry) (told : Out) (n : Hub) → late ≡ true → has_loop_ended h.stage ≡ true → AreSoundFrom late 1 h.functions
+    → HubCase h x told n
     → reserved_history n ≤ reserved_history h
 late-room late h x told _ is_from_finals_on looped sound (queues_work w is none early) = let no : true ≡ false = sym looped ∙ early in cc
 late-room late h x told _ is_from_finals_on looped sound (creates_function f entry maximum count finalizer context addon target is early) =

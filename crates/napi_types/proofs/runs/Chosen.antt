@@ -8,7 +8,7 @@ use Rattle.napi_types.specs.declared.entry.Phase.TheVariants as phase
 use Rattle.napi_types.specs.parts.Book.{lowest_due}
 use Rattle.napi_types.specs.parts.Hooks.{Hook, last_hook}
 use Rattle.napi_types.specs.environment.Environment.{Environment}
-use Rattle.napi_types.specs.hub.Hub.{Hub, Stage, Before, Going, Looped, Drained, Final}
+use Rattle.napi_types.specs.hub.Hub.{Hub, Stage, Before, Live, LoopEnded, Drained, Final}
 use Rattle.napi_types.specs.hub.HubMoves.{HubMove, hub_move, is_idle, is_quiet, idle_reason, is_spent}
 use Rattle.napi_types.specs.runs.Choice.{local_choice, local_choice_in, hub_choice, hub_choice_at, choice, finals_choice, waiting_hooks}
 use Rattle.napi_types.specs.runs.Loop.{Event, Opens, Inits, Tickets, Moves, Goes, EndsLoop, Drains, FinalsCome, IsGone}
@@ -92,23 +92,23 @@ no-choice e phase.Gone is = gone
 -- an event of the hub, where so many hooks wait and it has come so far
 pub data HubChoice (h : Hub) (waiting : ℕ) : Stage → Event → Type 0 where
   goes : HubChoice h waiting Before Goes
-  idles : hub_move h ≡ None → is_idle h ≡ true → HubChoice h waiting Going (EndsLoop loop_end.Idle)
-  quiets : hub_move h ≡ None → is_idle h ≡ false → is_quiet h ≡ true → HubChoice h waiting Going (EndsLoop loop_end.Quiet)
-  drains : HubChoice h waiting Looped Drains
+  idles : hub_move h ≡ None → is_idle h ≡ true → HubChoice h waiting Live (EndsLoop loop_end.Idle)
+  quiets : hub_move h ≡ None → is_idle h ≡ false → is_quiet h ≡ true → HubChoice h waiting Live (EndsLoop loop_end.Quiet)
+  drains : HubChoice h waiting LoopEnded Drains
   finals : hub_move h ≡ None → is_spent h ≡ true → HubChoice h waiting Drained FinalsCome
-  moves_in_loop : (move : HubMove) → hub_move h ≡ Some move → HubChoice h waiting Going (Moves move)
+  moves_in_loop : (move : HubMove) → hub_move h ≡ Some move → HubChoice h waiting Live (Moves move)
   moves_at_end : (move : HubMove) → hub_move h ≡ Some move → HubChoice h waiting Drained (Moves move)
 
 idle-choice : (h : Hub) (waiting : ℕ) (idle quiet : Bool) (v : Event) → hub_move h ≡ None → is_idle h ≡ idle → is_quiet h ≡ quiet
-    → option_map EndsLoop (cond idle (Some loop_end.Idle) (cond quiet (Some loop_end.Quiet) None)) ≡ Some v → HubChoice h waiting Going v
-idle-choice h waiting true quiet v none idle quietly is = let same : EndsLoop loop_end.Idle ≡ v = cc in subst (HubChoice h waiting Going) same (idles none idle)
+    → option_map EndsLoop (cond idle (Some loop_end.Idle) (cond quiet (Some loop_end.Quiet) None)) ≡ Some v → HubChoice h waiting Live v
+idle-choice h waiting true quiet v none idle quietly is = let same : EndsLoop loop_end.Idle ≡ v = cc in subst (HubChoice h waiting Live) same (idles none idle)
 idle-choice h waiting false true v none idle quietly is =
-    let same : EndsLoop loop_end.Quiet ≡ v = cc in subst (HubChoice h waiting Going) same (quiets none idle quietly)
+    let same : EndsLoop loop_end.Quiet ≡ v = cc in subst (HubChoice h waiting Live) same (quiets none idle quietly)
 idle-choice h waiting false false v none idle quietly is = cc
 
 going-choice : (h : Hub) (waiting : ℕ) (o : Option HubMove) (v : Event) → hub_move h ≡ o
-    → option_or (option_map Moves o) (option_map EndsLoop (idle_reason h)) ≡ Some v → HubChoice h waiting Going v
-going-choice h waiting (Some move) v next is = let same : Moves move ≡ v = cc in subst (HubChoice h waiting Going) same (moves_in_loop move next)
+    → option_or (option_map Moves o) (option_map EndsLoop (idle_reason h)) ≡ Some v → HubChoice h waiting Live v
+going-choice h waiting (Some move) v next is = let same : Moves move ≡ v = cc in subst (HubChoice h waiting Live) same (moves_in_loop move next)
 going-choice h waiting None v next is = idle-choice h waiting (is_idle h) (is_quiet h) v next refl refl is
 
 spent-choice : (h : Hub) (waiting : ℕ) (spent : Bool) (v : Event) → hub_move h ≡ None → is_spent h ≡ spent
@@ -123,8 +123,8 @@ drained-choice h waiting None v next is = spent-choice h waiting (is_spent h) v 
 
 pub hub-choice : (h : Hub) (waiting : ℕ) (s : Stage) (v : Event) → hub_choice_at h waiting s ≡ Some v → HubChoice h waiting s v
 hub-choice h waiting Before v is = let same : Goes ≡ v = cc in subst (HubChoice h waiting Before) same goes
-hub-choice h waiting Going v is = going-choice h waiting (hub_move h) v refl is
-hub-choice h waiting Looped v is = let same : Drains ≡ v = cc in subst (HubChoice h waiting Looped) same drains
+hub-choice h waiting Live v is = going-choice h waiting (hub_move h) v refl is
+hub-choice h waiting LoopEnded v is = let same : Drains ≡ v = cc in subst (HubChoice h waiting LoopEnded) same drains
 hub-choice h waiting Drained v is = drained-choice h waiting (hub_move h) v refl is
 hub-choice h waiting Final v is = cc
 

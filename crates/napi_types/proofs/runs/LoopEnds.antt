@@ -5,7 +5,7 @@ use Rattle.napi_types.specs.declared.entry.LoopEnd.{LoopEnd}
 use Rattle.napi_types.specs.declared.entry.LoopEnd.TheVariants as loop_end
 use Rattle.napi_types.specs.declared.entry.Phase.TheVariants as phase
 use Rattle.napi_types.specs.parts.Book.{lowest_due}
-use Rattle.napi_types.specs.hub.Hub.{Stage, Going}
+use Rattle.napi_types.specs.hub.Hub.{Stage, Live}
 use Rattle.napi_types.specs.hub.HubMoves.{HubMove, hub_move, idle_reason, is_idle, is_quiet, loop_end_of}
 use Rattle.napi_types.specs.runs.Choice.{local_choice_in, hub_choice_at, waiting_hooks}
 use Rattle.napi_types.specs.runs.Loop.{Moves, Tickets, EndsLoop}
@@ -23,7 +23,7 @@ loops-end-for-the-reason m here far =
     ∙ by m.env.exit_asked (lowest_due m.env.book)
   where
     by : (exit : Bool) (o : Option ℕ)
-        → loop_end_told (option_or (cond exit (Some (EndsLoop loop_end.Exit)) (option_map Tickets o)) (hub_choice_at m.hub (waiting_hooks m.env) Going))
+        → loop_end_told (option_or (cond exit (Some (EndsLoop loop_end.Exit)) (option_map Tickets o)) (hub_choice_at m.hub (waiting_hooks m.env) Live))
         ≡ loop_end_of exit (is_some o) m.hub
     by true o = refl
     by false (Some n) = refl

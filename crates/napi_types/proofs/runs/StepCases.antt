@@ -24,7 +24,7 @@ use Rattle.napi_types.specs.environment.Changes.{opening_change, init_change, go
 use Rattle.napi_types.specs.environment.Ends.{end_change}
 use Rattle.napi_types.specs.environment.Entering.{asked_change}
 use Rattle.napi_types.specs.environment.Tickets.{ticket_change, ticket_in, next_ticket}
-use Rattle.napi_types.specs.hub.Hub.{IsStageOf, Stage, Before, Going, Looped, Drained, stage_after}
+use Rattle.napi_types.specs.hub.Hub.{IsStageOf, Stage, Before, Live, LoopEnded, Drained, stage_after}
 use Rattle.napi_types.specs.hub.HubMoves.{HubMove, hub_move}
 use Rattle.napi_types.specs.hub.HubEvents.{is_moving}
 use Rattle.napi_types.specs.hub.HubSteps.{hub_step}
@@ -100,9 +100,9 @@ ticket-case : (m : Machine) (n : ℕ) (o : Option Registration) → registration
 ticket-case m n None there next may = cc
 ticket-case m n (Some r) there next may = begins n r there next may
 
-loop_end-case : (m : Machine) (w : LoopEnd) → m.env.phase ≡ phase.Live → m.hub.stage ≡ Going → StepCase m (event_step m (EndsLoop w))
+loop_end-case : (m : Machine) (w : LoopEnd) → m.env.phase ≡ phase.Live → m.hub.stage ≡ Live → StepCase m (event_step m (EndsLoop w))
 loop_end-case m w here far =
-    passes phase.Hooks (out.Ended w) (record { next = rw here refl; never = λ z. cc; far = stage-moved m host.LoopEnd Going far; entry = refl; left = λ z. cc })
+    passes phase.Hooks (out.Ended w) (record { next = rw here refl; never = λ z. cc; far = stage-moved m host.LoopEnd Live far; entry = refl; left = λ z. cc })
 
 -- one that the environment decides alone, ..
 own-case : (m : Machine) (p : Phase) (v : Event) → m.env.phase ≡ p → IsStageOf p m.hub.stage → OwnChoice m.env p v → IsTrue (event_step m v).may
@@ -127,7 +127,7 @@ hub-case m _ _ _ alone here far shown (choices.quiets none busy quiet) (choices.
 hub-case m _ _ _ alone here far shown (choices.moves_in_loop move next) (choices.waits unasked lowest) = moves move next (ap is_moving far) alone
 hub-case m _ _ _ alone here far shown choices.drains (choices.unhooked none) =
     passes phase.Drain (out.Unsigned (length m.hub.pool.queued))
-    (record { next = rw here refl; never = λ z. cc; far = stage-moved m host.Drain Looped far; entry = refl; left = λ z. none })
+    (record { next = rw here refl; never = λ z. cc; far = stage-moved m host.Drain LoopEnded far; entry = refl; left = λ z. none })
 hub-case m _ _ _ alone here far shown (choices.finals none spent) choices.drained =
     passes phase.Finals out.Nothing (record { next = rw here refl; never = λ z. cc; far = stage-moved m host.Finals Drained far; entry = refl; left = λ z. cc })
 hub-case m _ _ _ alone here far shown (choices.moves_at_end move next) choices.drained = moves move next (ap is_moving far) alone

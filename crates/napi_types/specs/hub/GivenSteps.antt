@@ -11,16 +11,16 @@ use Rattle.napi_types.specs.declared.status.Status.TheVariants as status
 use Rattle.napi_types.specs.plain.Guards.{is_shared, is_registering}
 use Rattle.napi_types.specs.plain.Lists.{has_number}
 use Rattle.napi_types.specs.plain.Replies.{Answer, refuses}
-use Rattle.napi_types.specs.hub.Hub.{Hub, Stage, Looped, Drained, Final}
+use Rattle.napi_types.specs.hub.Hub.{Hub, Stage, LoopEnded, Drained, Final}
 use Rattle.napi_types.specs.hub.HubCalls.{hub_answer}
 use Rattle.napi_types.specs.hub.HubStep.{HubStep, no_hub_step, answered_step}
 
 -- from `loop_end` on
-abbrev pub is_looped : Stage → Bool
-is_looped Looped = true
-is_looped Drained = true
-is_looped Final = true
-is_looped _ = false
+abbrev pub has_loop_ended : Stage → Bool
+has_loop_ended LoopEnded = true
+has_loop_ended Drained = true
+has_loop_ended Final = true
+has_loop_ended _ = false
 
 -- refused with 9
 abbrev pub is_failure : Option Status → Bool
@@ -29,7 +29,7 @@ is_failure _ = false
 
 -- from `loop_end` on the environment refuses each call that registers with 9
 abbrev pub fits_stage : Stage → Call → Option Status → Bool
-fits_stage s c refused = not (is_looped s && is_registering c) || is_failure refused
+fits_stage s c refused = not (has_loop_ended s && is_registering c) || is_failure refused
 
 -- the number of a work that a result newly gives; 0 where it gives none
 abbrev pub work_number : Out → ℕ

@@ -13,8 +13,8 @@ use Rattle.napi_types.specs.parts.Pool.{WorkPool, new_pool}
 -- which of the hub's four great events was the last: none, `go`, `loop_end`, `drain`, `finals`
 pub data Stage : Type 0 where
   Before : Stage
-  Going : Stage
-  Looped : Stage
+  Live : Stage
+  LoopEnded : Stage
   Drained : Stage
   Final : Stage
 
@@ -53,9 +53,9 @@ is_past_drain _ = false
 
 -- `go`, `loop_end`, `drain` and `finals` happen once each and in this order
 abbrev pub stage_after : Stage → HostStep → Option Stage
-stage_after Before host.Go = Some Going
-stage_after Going host.LoopEnd = Some Looped
-stage_after Looped host.Drain = Some Drained
+stage_after Before host.Go = Some Live
+stage_after Live host.LoopEnd = Some LoopEnded
+stage_after LoopEnded host.Drain = Some Drained
 stage_after Drained host.Finals = Some Final
 stage_after _ _ = None
 
@@ -73,16 +73,16 @@ workers_left h = left_of h.workers h.ended_workers
 -- how many of the four great events have still to happen
 abbrev pub stage_places : Stage → ℕ
 stage_places Before = 4
-stage_places Going = 3
-stage_places Looped = 2
+stage_places Live = 3
+stage_places LoopEnded = 2
 stage_places Drained = 1
 stage_places Final = 0
 
 -- a stage to which the hub may have come in this phase
 abbrev pub IsStageOf : Phase → Stage → Type 0
 IsStageOf phase.Init s = s ≡ Before
-IsStageOf phase.Live s = s ≡ Going
-IsStageOf phase.Hooks s = s ≡ Looped
+IsStageOf phase.Live s = s ≡ Live
+IsStageOf phase.Hooks s = s ≡ LoopEnded
 IsStageOf phase.Drain s = s ≡ Drained
 IsStageOf phase.Finals s = s ≡ Final
 IsStageOf phase.Gone s = s ≡ Final

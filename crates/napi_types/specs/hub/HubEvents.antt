@@ -11,7 +11,7 @@ use Rattle.napi_types.specs.plain.Entries.{host_told, host_entry}
 use Rattle.napi_types.specs.parts.Frames.{begin_told, frame_of_duty}
 use Rattle.napi_types.specs.parts.Functions.{closed, finished}
 use Rattle.napi_types.specs.parts.Pool.{drained}
-use Rattle.napi_types.specs.hub.Hub.{Hub, Stage, Going, Looped, Drained, stage_after}
+use Rattle.napi_types.specs.hub.Hub.{Hub, Stage, Live, LoopEnded, Drained, stage_after}
 use Rattle.napi_types.specs.hub.HubMoves.{HubMove, Delivers, Closes, Finishes, hub_move, in_tsfn, with_delivered}
 use Rattle.napi_types.specs.hub.HubStep.{HubStep, no_hub_step}
 
@@ -34,8 +34,8 @@ drained_hub h = record h { pool = drained h.pool; functions = map closed h.funct
 
 -- after `go` and before `finals` the hub makes its moves, where no frame of its own stands
 abbrev pub is_moving : Stage → Bool
-is_moving Going = true
-is_moving Looped = true
+is_moving Live = true
+is_moving LoopEnded = true
 is_moving Drained = true
 is_moving _ = false
 

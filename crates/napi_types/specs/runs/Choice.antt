@@ -4,7 +4,7 @@ use Rattle.std.specs.Prelude.{ℕ, cond, Option, Some, None, option_map}
 use Rattle.napi_types.specs.declared.entry.Phase.{Phase}
 use Rattle.napi_types.specs.declared.entry.Phase.TheVariants as phase
 use Rattle.napi_types.specs.environment.Environment.{Environment}
-use Rattle.napi_types.specs.hub.Hub.{Hub, Stage, Before, Going, Looped, Drained, Final}
+use Rattle.napi_types.specs.hub.Hub.{Hub, Stage, Before, Live, LoopEnded, Drained, Final}
 use Rattle.napi_types.specs.hub.HubMoves.{hub_move, idle_reason, is_spent}
 use Rattle.napi_types.specs.runs.Loop.{Event, Moves, Goes, EndsLoop, Drains, FinalsCome, init_choice, loop_choice}
 use Rattle.napi_types.specs.runs.Machine.{Machine}
@@ -30,8 +30,8 @@ finals_choice h = cond (is_spent h) (Some FinalsCome) None
 -- reason, or `finals` comes
 abbrev pub hub_choice_at : Hub → ℕ → Stage → Option Event
 hub_choice_at h waiting Before = Some Goes
-hub_choice_at h waiting Going = option_or (option_map Moves (hub_move h)) (option_map EndsLoop (idle_reason h))
-hub_choice_at h waiting Looped = Some Drains
+hub_choice_at h waiting Live = option_or (option_map Moves (hub_move h)) (option_map EndsLoop (idle_reason h))
+hub_choice_at h waiting LoopEnded = Some Drains
 hub_choice_at h waiting Drained = option_or (option_map Moves (hub_move h)) (finals_choice h)
 hub_choice_at h waiting Final = None
 

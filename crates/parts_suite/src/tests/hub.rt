@@ -5,9 +5,9 @@ ghost use Rattle.napi_types.specs.declared.call.Call.TheVariants.{CallThreadsafe
 ghost use Rattle.napi_types.specs.declared.call.Mode.TheVariants.{Nonblocking};
 ghost use Rattle.napi_types.specs.plain.Guards.{is_shared, is_registering};
 ghost use Rattle.napi_types.specs.plain.Room.{most_entries};
-ghost use Rattle.napi_types.specs.hub.GivenSteps.{is_looped, is_failure};
+ghost use Rattle.napi_types.specs.hub.GivenSteps.{has_loop_ended, is_failure};
 ghost use Rattle.napi_types.specs.hub.HistoryLaws.{KeepsStanding};
-ghost use Rattle.napi_types.specs.hub.Hub.{Before, Going, Looped, Drained};
+ghost use Rattle.napi_types.specs.hub.Hub.{Before, Live, LoopEnded, Drained};
 ghost use Rattle.napi_types.specs.hub.HubCalls.{is_thread_call};
 ghost use Rattle.napi_types.specs.hub.HubEvents.{may_move};
 ghost use Rattle.napi_types.specs.hub.ThreadSteps.{is_thread_there};
@@ -56,7 +56,7 @@ fn asked<J: Job, N: Naming>(
     requires plain { is_making_function call ≡ false }
     requires initial { IsHeldAtFirst call }
     requires refused { IsOwnRefusal refused }
-    requires timely { is_looped state.old.hub.stage ≡ true → is_registering call ≡ true → is_failure refused ≡ true }
+    requires timely { has_loop_ended state.old.hub.stage ≡ true → is_registering call ≡ true → is_failure refused ≡ true }
     ensures keeps { KeepsStanding state.old.hub state.new.hub }
     ensures actors { KeepsActors state.old.hub state.new.hub }
 {
@@ -80,7 +80,7 @@ fn status_of(outcome: Result<Reply, Status>) -> Status {
 
 /// The number of a new work, 0 where none was made.
 fn new_work<J: Job, N: Naming>(state: &mut HubState<J, N>) -> WorkId
-    requires { is_looped state.old.hub.stage ≡ false }
+    requires { has_loop_ended state.old.hub.stage ≡ false }
     ensures keeps { KeepsStanding state.old.hub state.new.hub }
     ensures actors { KeepsActors state.old.hub state.new.hub }
 {
@@ -239,7 +239,7 @@ fn made_held<J: Job, N: Naming>(
 ) -> u16
     requires held { 0 < count }
     requires refused { IsOwnRefusal refused }
-    requires timely { is_looped state.old.hub.stage ≡ true → is_failure refused ≡ true }
+    requires timely { has_loop_ended state.old.hub.stage ≡ true → is_failure refused ≡ true }
     ensures keeps { KeepsStanding state.old.hub state.new.hub }
     ensures actors { KeepsActors state.old.hub state.new.hub }
 {
@@ -271,7 +271,7 @@ fn made<J: Job, N: Naming>(
     refused: Option<Status>,
 ) -> u16
     requires refused { IsOwnRefusal refused }
-    requires timely { is_looped state.old.hub.stage ≡ true → is_failure refused ≡ true }
+    requires timely { has_loop_ended state.old.hub.stage ≡ true → is_failure refused ≡ true }
     ensures keeps { KeepsStanding state.old.hub state.new.hub }
     ensures actors { KeepsActors state.old.hub state.new.hub }
 {
@@ -285,7 +285,7 @@ fn tell_each<J: Job, N: Naming>(
     own: Option<Status>,
 ) -> [u16; 11]
     requires refused { IsOwnRefusal own }
-    requires timely { is_looped state.old.hub.stage ≡ true → is_failure own ≡ true }
+    requires timely { has_loop_ended state.old.hub.stage ≡ true → is_failure own ≡ true }
     ensures { KeepsStanding state.old.hub state.new.hub }
 {
     const RELEASE: Call = Call::ReleaseThreadsafeFunction(FIRST, Release::Release);
@@ -354,7 +354,7 @@ fn five_moves<N: Naming>(state: &mut HubState<ScriptJob, N>) -> [Moves; 5]
 fn gone<J: Job, N: Naming>(state: &mut HubState<J, N>)
     requires first { state.old.hub.stage ≡ Before }
     requires alone { state.old.hub.standing ≡ None }
-    ensures stage { state.new.hub.stage ≡ Going }
+    ensures stage { state.new.hub.stage ≡ Live }
     ensures alone { state.new.hub.standing ≡ None }
     ensures actors { KeepsActors state.old.hub state.new.hub }
 {
@@ -363,9 +363,9 @@ fn gone<J: Job, N: Naming>(state: &mut HubState<J, N>)
 
 /// The loop ends by exit.
 fn left<J: Job, N: Naming>(state: &mut HubState<J, N>)
-    requires going { state.old.hub.stage ≡ Going }
+    requires going { state.old.hub.stage ≡ Live }
     requires alone { state.old.hub.standing ≡ None }
-    ensures stage { state.new.hub.stage ≡ Looped }
+    ensures stage { state.new.hub.stage ≡ LoopEnded }
     ensures alone { state.new.hub.standing ≡ None }
     ensures actors { KeepsActors state.old.hub state.new.hub }
 {
@@ -374,7 +374,7 @@ fn left<J: Job, N: Naming>(state: &mut HubState<J, N>)
 
 /// The drain.
 fn drained<J: Job, N: Naming>(state: &mut HubState<J, N>) -> u64
-    requires looped { state.old.hub.stage ≡ Looped }
+    requires looped { state.old.hub.stage ≡ LoopEnded }
     requires alone { state.old.hub.standing ≡ None }
     ensures stage { state.new.hub.stage ≡ Drained }
     ensures alone { state.new.hub.standing ≡ None }

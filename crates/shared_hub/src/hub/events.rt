@@ -4,7 +4,7 @@ ghost use Rattle.std.specs.Option.{IfNone};
 ghost use Rattle.napi_types.specs.declared.entry.HostStep.TheVariants as host;
 ghost use Rattle.napi_types.specs.declared.entry.Out.TheVariants as out;
 ghost use Rattle.napi_types.specs.plain.Entries.{host_entry as entry_of};
-ghost use Rattle.napi_types.specs.hub.Hub.{Stage, Before, Going, Looped, Drained};
+ghost use Rattle.napi_types.specs.hub.Hub.{Stage, Before, Live, LoopEnded, Drained};
 ghost use Rattle.napi_types.specs.hub.HubMoves.{hub_move, is_quiet, is_spent, loop_end_of};
 ghost use Rattle.shared_hub.specs.HubStates.{AddsEntry};
 
@@ -23,7 +23,7 @@ impl<J: Job, N: Naming> HubState<J, N> {
         ensures { AddsEntry self.old (entry_of host.Go out.Nothing) self.new }
     {
         self.sleepers.ring_all(WaitsFor::Go);
-        self.progress.stage = HubStage::Going;
+        self.progress.stage = HubStage::Live;
         self.entries
             .push_reserved(host_entry(HostStep::Go, Out::Nothing));
     }
@@ -34,7 +34,7 @@ impl<J: Job, N: Naming> HubState<J, N> {
     ///
     /// Constant time. It takes no memory.
     pub fn loop_end(&mut self, exit: bool, due: bool) -> Option<LoopEnd>
-        requires going { self.old.hub.stage ≡ Going }
+        requires going { self.old.hub.stage ≡ Live }
         requires alone { self.old.hub.standing ≡ None }
         ensures reason { result ≡ loop_end_of exit due self.old.hub }
         ensures ended { IfSome result (λ why. AddsEntry self.old (entry_of host.LoopEnd (out.Ended why)) self.new) }
@@ -44,7 +44,7 @@ impl<J: Job, N: Naming> HubState<J, N> {
             self.sleepers.wait_for(WaitsFor::Entry);
             return None;
         };
-        self.progress.stage = HubStage::Looped;
+        self.progress.stage = HubStage::LoopEnded;
         self.entries
             .push_reserved(host_entry(HostStep::LoopEnd, Out::Ended(why)));
         Some(why)
@@ -54,7 +54,7 @@ impl<J: Job, N: Naming> HubState<J, N> {
     ///
     /// In time linear in the works that waited and in the functions. It takes no memory.
     pub fn drain(&mut self) -> u64
-        requires looped { self.old.hub.stage ≡ Looped }
+        requires looped { self.old.hub.stage ≡ LoopEnded }
         requires alone { self.old.hub.standing ≡ None }
         ensures count { result ≡ length self.old.hub.pool.queued }
         ensures drained { AddsEntry self.old (entry_of host.Drain (out.Unsigned (length self.old.hub.pool.queued))) self.new }

@@ -113,7 +113,7 @@ fn ask<N: Naming>(state: &mut HubState<ScriptJob, N>, call: Call, target: Option
     requires initial { IsHeldAtFirst call }
     ensures { IsByEnvironment N.numbers.threads state.old state.new }
 {
-    if !state.is_at(HubStage::Before) && !state.is_at(HubStage::Going) {
+    if !state.is_at(HubStage::Before) && !state.is_at(HubStage::Live) {
         return Out::Nothing;
     }
     match state.env_shared(&SharedCall {
@@ -203,7 +203,7 @@ fn make_move<N: Naming>(state: &mut HubState<ScriptJob, N>)
 fn end_loop<N: Naming>(state: &mut HubState<ScriptJob, N>)
     ensures { IsByEnvironment N.numbers.threads state.old state.new }
 {
-    if state.is_at(HubStage::Going) {
+    if state.is_at(HubStage::Live) {
         let _why = state.loop_end(true, false);
     }
 }
@@ -211,7 +211,7 @@ fn end_loop<N: Naming>(state: &mut HubState<ScriptJob, N>)
 fn drain<N: Naming>(state: &mut HubState<ScriptJob, N>)
     ensures { IsByEnvironment N.numbers.threads state.old state.new }
 {
-    if state.is_at(HubStage::Looped) {
+    if state.is_at(HubStage::LoopEnded) {
         let _count = state.drain();
     }
 }

@@ -20,7 +20,7 @@ invariant_of-self g c =
     let h : Hub = led_by g.N.Naming.numbers s.entries.items in
     rw (c.push_reserved.ensures.items, c.host_entry.ensures, c.push_reserved.ensures.capacity)
     (event-kept g.N.Naming.numbers s.entries.items s.limit _ (host_entry host.Go out.Nothing) (staged host.Go h) s.parts _ c.self.invariant.0 (comes g c) refl
-    (staged-fields h host.Go code.Going s.parts s.progress (rw (rw (← c.self.view_is) at c.requires.first) refl) c.self.invariant.1))
+    (staged-fields h host.Go code.Live s.parts s.progress (rw (rw (← c.self.view_is) at c.requires.first) refl) c.self.invariant.1))
 
 pub returns : goal.returns
 returns g c =

@@ -22,7 +22,7 @@ invariant_of-self-2 g c =
     let h : Hub = led_by g.N.Naming.numbers s.entries.items in
     rw (c.push_reserved.ensures.items, c.host_entry.ensures, c.push_reserved.ensures.capacity)
     (event-kept g.N.Naming.numbers s.entries.items s.limit _ (host_entry host.LoopEnd (out.Ended c.in-Some.why)) (staged host.LoopEnd h) s.parts _ c.self.invariant.0 (comes g c) refl
-    (staged-fields h host.LoopEnd code.Looped s.parts s.progress (rw (rw (← c.self.view_is) at c.requires.going) refl) c.self.invariant.1))
+    (staged-fields h host.LoopEnd code.LoopEnded s.parts s.progress (rw (rw (← c.self.view_is) at c.requires.going) refl) c.self.invariant.1))
 
 pub returns-clause-ended : goal.returns-clause-ended
 returns-clause-ended g c =
