@@ -46,7 +46,7 @@ use Rattle.shared_hub.specs.SharedTries.{given_by}
 use Rattle.env_loop.specs.FollowedRuns.{Asks, IsRecordedRun, taken_in, HasNumbers}
 use Rattle.env_loop.specs.HubTurns.{IsHubTurn}
 use Rattle.env_loop.specs.Recording.{AddonStates, machine_of, HasSeen, IsOf, IsRecorded, RecordsOwn}
-use Rattle.env_loop.specs.RecordedRuns.{Run, IsSoundEnvironment, IsAwaited, IsOwedEnd, IsRunning, owes_hub, FitsHub}
+use Rattle.env_loop.specs.RecordedRuns.{Run, IsSoundEnvironment, IsAwaited, IsPendingEnd, IsRunning, pending_at_hub, FitsHub}
 use Rattle.env_loop.specs.Turns.{ReplyIsNoted, OnlyInnermostChanges, hub_duty_info_of, hub_event}
 use Rattle.env_loop.proofs.FrameTurns.{HasTopFrame, head-stands, stands-so}
 use Rattle.env_loop.proofs.HandedOver.{hands-owned}
@@ -150,7 +150,7 @@ answered-running run old core c r position view running awaited settled =
       sound = answered-sound run.core.env c r w running.sound;
       held = ap duties_of (answered-frames run.core.env c.call r) ∙ counted-duties run.core.env.frames ∙ running.held;
       awaited = tt;
-      ends = subst (λ o. IfSome o (IsOwedEnd (after_shared c.call r run.core.env))) (sym none) tt;
+      ends = subst (λ o. IfSome o (IsPendingEnd (after_shared c.call r run.core.env))) (sym none) tt;
       one = λ some. absurd (some refl);
     })
 
@@ -181,7 +181,7 @@ turn-answered : (n : Numbers) (plans : List Plan) (run : Run) (c : SharedCall) (
 turn-answered n plans run c r before after all now led running fits awaited adds keeps room told unseen =
     let w : IsAwaited run.core.env c = awaited-stands run c running awaited in
     let new : Run = record { core = after_answer c r (length after.history) run.core; begun = run.begun; ending = None } in
-    let owes : owes_hub run ≡ true = owes-call run c awaited in
+    let owes : pending_at_hub run ≡ true = owes-call run c awaited in
     record {
       made = record { entry = handed_entry c r; by = refl; adds = adds };
       answered = refl;

@@ -1,4 +1,4 @@
--- The call that is awaited: that it is asked, and that it is owed.
+-- The call that is awaited: that it is asked, and that it is pending.
 use Rattle.std.proofs.Common.{◌≡◌, ◌<◌, ◌&&◌, ◌||◌, ℕ, nat_lt, Bool, true, false, cond, List, [], ◌∷◌, refl, ap, subst, ◌∙◌, arith, Option, Some, None, is_some, IfSome}
 use Rattle.napi_types.specs.declared.call.Ask.TheVariants as ask
 use Rattle.napi_types.specs.declared.call.Call.{Call}
@@ -15,7 +15,7 @@ use Rattle.napi_types.specs.runs.Setting.{Setting}
 use Rattle.env_core.specs.Core.{Core}
 use Rattle.env_loop.specs.FollowedRuns.{Asks}
 use Rattle.env_loop.specs.Recording.{AddonStates, IsRecorded}
-use Rattle.env_loop.specs.RecordedRuns.{Run, IsAwaited, IsRunning, owes_hub}
+use Rattle.env_loop.specs.RecordedRuns.{Run, IsAwaited, IsRunning, pending_at_hub}
 use Rattle.env_loop.proofs.TurnSteps.{two_may}
 
 -- WHAT IS ASKED
@@ -65,8 +65,8 @@ pub awaits : (run old : Run) (c : SharedCall) → run ≡ old → IsRunning run.
 awaits run old c view running awaited =
     subst (λ (x : Run). IsAwaited x.core.env c) view (awaited-stands run c running (ap (λ (x : Run). x.core.awaited) view ∙ awaited))
 
--- .. and it is owed
-pub owes-call : (run : Run) (c : SharedCall) → run.core.awaited ≡ Some c → owes_hub run ≡ true
+-- .. and it is pending
+pub owes-call : (run : Run) (c : SharedCall) → run.core.awaited ≡ Some c → pending_at_hub run ≡ true
 owes-call run c awaited = ap (λ o. is_some o || (is_some run.ending && is_hub_duty (duty_of run.core.env.frames))) awaited
 
 -- then no end is

@@ -25,10 +25,10 @@ use Rattle.env_loop.specs.declared.run.HubTurn.TheVariants as hub_turn
 use Rattle.env_loop.specs.declared.turn.LocalTurn.{LocalTurn}
 use Rattle.env_loop.specs.declared.turn.LocalTurn.TheVariants as turn
 use Rattle.env_loop.specs.ActorRuns.{AddsEntryOf}
-use Rattle.env_loop.specs.Bursts.{asks_no_more, silent_end, is_of_hub, comes_over, comes_to_hub, made_by, AreHubNext, AddsEntriesOf, IsPaid, IsBurst, RunAtHub, BurstBetween, TurnsOn, StopsAtAsks}
+use Rattle.env_loop.specs.Bursts.{asks_no_more, silent_end, is_of_hub, comes_over, comes_to_hub, made_by, AreHubNext, AddsEntriesOf, NothingPending, IsBurst, RunAtHub, BurstBetween, TurnsOn, StopsAtAsks}
 use Rattle.env_loop.specs.FollowedRuns.{RunGoesOn, GoesOnAt}
 use Rattle.env_loop.specs.Recording.{AddonStates}
-use Rattle.env_loop.specs.RecordedRuns.{Run, IsSoundEnvironment, IsRunning, owes_hub, FitsHub}
+use Rattle.env_loop.specs.RecordedRuns.{Run, IsSoundEnvironment, IsRunning, pending_at_hub, FitsHub}
 use Rattle.env_loop.specs.Turns.{event_turn, turn_at, turn_of, needs_hub, hub_event, IfCut, Awaits, IsAskIn}
 use Rattle.env_loop.proofs.CutTurns.{both-first, spent-ends}
 use Rattle.env_loop.proofs.EndTurns.{MayEndInScripts, left-may, owed-end}
@@ -75,14 +75,14 @@ entries-then who j k m a b c is x y = record {
 }
 
 -- TURNS AFTER TURNS
--- a run of which another end is owed fits with each hub still
+-- a run of which another end is pending fits with each hub still
 pub owed-fits : (old new : Run) (s : HubSeen) → new.core ≡ old.core → new.begun ≡ old.begun → FitsHub old s → FitsHub new s
 owed-fits old new s core begun fits =
     subst (λ (r : Run). FitsHub r s)
     (ap (λ c. record { core = c; begun = old.begun; ending = new.ending }) (sym core) ∙ ap (λ b. record { core = new.core; begun = b; ending = new.ending }) (sym begun))
     (record { stage = fits.stage; standing = fits.standing; owned = fits.owned; noted = fits.noted })
 
--- no turn, and another end that is owed
+-- no turn, and another end that is pending
 pub no-turn : (n : Numbers) (plans : List Plan) (old new : Run) (s : HubSeen) (all : AddonStates) → new.core ≡ old.core → new.begun ≡ old.begun → FitsHub old s
     → RunGoesOn plans old s.history all new s.history all → IsBurst n plans 0 old s all new s all
 no-turn n plans old new s all core begun fits goes = record {
@@ -168,22 +168,22 @@ stops-at-asks n plans later t k old first new planned made on one_made =
     (first, subst (λ (u : HubTurn). BurstBetween n plans (made_by u) old first) made one_made, subst (λ ps. TurnsOn n ps k first new) planned on)
 
 -- WHERE THE NEXT EVENT IS THE HUB'S
--- the turn that is to be made where nothing is owed, and no frame stands
+-- the turn that is to be made where nothing is pending, and no frame stands
 over-none : (fs : List Frame) (e : Environment) → turn_at fs e ≡ turn.NeedsHub → comes_over fs e ≡ true
 over-none [] e needs = ap is_of_hub needs
 over-none (f ∷ fs) e needs = cc
 
 pub needed-comes : (run : Run) → needs_hub run → comes_to_hub run ≡ true
-needed-comes run needs = by (owes_hub run) refl
+needed-comes run needs = by (pending_at_hub run) refl
   where
-    by : (b : Bool) → owes_hub run ≡ b → comes_to_hub run ≡ true
+    by : (b : Bool) → pending_at_hub run ≡ b → comes_to_hub run ≡ true
     by true owes = ap (λ b. b || comes_over run.core.env.frames run.core.env) owes
     by false owes =
         ap (λ b. b || comes_over run.core.env.frames run.core.env) owes
         ∙ over-none run.core.env.frames run.core.env (sym (ap (λ b. cond b turn.NeedsHub (turn_of run.core.env)) owes) ∙ needs)
 
--- what comes next where nothing is owed
-pub comes-unowed : (run : Run) → IsPaid run → comes_to_hub run ≡ true → comes_over run.core.env.frames run.core.env ≡ true
+-- what comes next where nothing is pending
+pub comes-unowed : (run : Run) → NothingPending run → comes_to_hub run ≡ true → comes_over run.core.env.frames run.core.env ≡ true
 comes-unowed run paid comes =
     sym (ap (λ b. b || comes_over run.core.env.frames run.core.env)
     (ap (λ o. is_some o || (is_some run.ending && is_hub_duty (duty_of run.core.env.frames))) paid.answered
@@ -205,7 +205,8 @@ makes-none : (makes : Bool) → not (makes && true) ≡ true → makes ≡ false
 makes-none true none = cc
 makes-none false none = refl
 
-silent-may : (plans : List Plan) (old : Run) (all : AddonStates) (f : Frame) → IsSoundEnvironment old.core.env → IsPaid old → head old.core.env.frames ≡ Some f
+silent-may : (plans : List Plan) (old : Run) (all : AddonStates) (f : Frame) → IsSoundEnvironment old.core.env → NothingPending old
+    → head old.core.env.frames ≡ Some f
     → asks_no_more f ≡ true → MayEndInScripts plans old all None (silent_end f)
 silent-may plans old all f sound paid top silent = by (nat_lt f.asks most_asks) refl
   where
@@ -226,13 +227,14 @@ silent-may plans old all f sound paid top silent = by (nat_lt f.asks most_asks) 
         subst (λ b. MayEndInScripts plans old all None (cond b end.Leaves (end.Cut why.Asks))) (sym below)
         (spent-ends plans old all f sound paid.answered paid.ended top (spent f.asks most_asks below (head-within old.core.env.frames f top sound.asks)))
 
--- so its end comes to be owed
-pub silent-owed : (inside old : Run) (f : Frame) → inside ≡ old → IsRunning inside.core inside.begun inside.ending → IsPaid old → comes_to_hub old ≡ true
+-- so its end comes to be pending
+pub silent-owed : (inside old : Run) (f : Frame) → inside ≡ old → IsRunning inside.core inside.begun inside.ending → NothingPending old
+    → comes_to_hub old ≡ true
     → head inside.core.env.frames ≡ Some f → (plans : List Plan) (all : AddonStates) (history : List Entry)
     → RunGoesOn plans old history all (record inside { ending = Some (silent_end f) }) history all
 silent-owed inside old f same runs paid comes top plans all history =
     let R : Run → Type 0 = λ r. RunGoesOn plans r history all (record inside { ending = Some (silent_end f) }) history all in
-    let paid_here : IsPaid inside = subst IsPaid (sym same) paid in
+    let paid_here : NothingPending inside = subst NothingPending (sym same) paid in
     let over = at-top inside.core.env.frames inside.core.env f top (comes-unowed inside paid_here (ap comes_to_hub same ∙ comes)) in
     subst R same ((owed-end plans inside all None (silent_end f) (silent-may plans inside all f runs.sound paid_here top over.1) over.0).goes history)
 
@@ -247,10 +249,11 @@ spent-asks fs f top within is = ap asks_made (head-stands fs f top) ∙ by (nat_
     by true below = let no : end.Leaves ≡ end.Cut why.Asks = sym (ap (λ b. cond b end.Leaves (end.Cut why.Asks)) below) ∙ is in cc
     by false below = spent f.asks most_asks below within
 
-pub silent-running : (inside old : Run) (f : Frame) → inside ≡ old → IsRunning inside.core inside.begun inside.ending → IsPaid old → comes_to_hub old ≡ true
+pub silent-running : (inside old : Run) (f : Frame) → inside ≡ old → IsRunning inside.core inside.begun inside.ending → NothingPending old
+    → comes_to_hub old ≡ true
     → head inside.core.env.frames ≡ Some f → IsRunning inside.core inside.begun (Some (silent_end f))
 silent-running inside old f same runs paid comes top =
-    let paid_here : IsPaid inside = subst IsPaid (sym same) paid in
+    let paid_here : NothingPending inside = subst NothingPending (sym same) paid in
     let over = at-top inside.core.env.frames inside.core.env f top (comes-unowed inside paid_here (ap comes_to_hub same ∙ comes)) in
     record {
       sound = runs.sound;
@@ -265,10 +268,10 @@ silent-running inside old f same runs paid comes top =
     }
 
 -- the hub has to make its turn then, ..
-pub silent-needs : (inside old : Run) (f : Frame) → inside ≡ old → IsPaid old → comes_to_hub old ≡ true → head inside.core.env.frames ≡ Some f
+pub silent-needs : (inside old : Run) (f : Frame) → inside ≡ old → NothingPending old → comes_to_hub old ≡ true → head inside.core.env.frames ≡ Some f
     → needs_hub (record inside { ending = Some (silent_end f) })
 silent-needs inside old f same paid comes top =
-    let paid_here : IsPaid inside = subst IsPaid (sym same) paid in
+    let paid_here : NothingPending inside = subst NothingPending (sym same) paid in
     let over = at-top inside.core.env.frames inside.core.env f top (comes-unowed inside paid_here (ap comes_to_hub same ∙ comes)) in
     turn-owes (record inside { ending = Some (silent_end f) }) inside.core.env (either (is_some inside.core.awaited) (is_hub_duty (duty_of inside.core.env.frames)) over.0)
   where
@@ -286,11 +289,11 @@ none-over : (fs : List Frame) (e : Environment) → head fs ≡ None → comes_o
 none-over [] e none comes = is-needing (event_turn (local_choice e) e.phase) comes
 none-over (f ∷ fs) e none comes = cc
 
-pub comes-needs : (inside old : Run) → inside ≡ old → IsPaid old → comes_to_hub old ≡ true → head inside.core.env.frames ≡ None → needs_hub inside
-comes-needs inside old same paid comes none = by (owes_hub inside)
+pub comes-needs : (inside old : Run) → inside ≡ old → NothingPending old → comes_to_hub old ≡ true → head inside.core.env.frames ≡ None → needs_hub inside
+comes-needs inside old same paid comes none = by (pending_at_hub inside)
   where
     turns : turn_of inside.core.env ≡ turn.NeedsHub
-    turns = none-over inside.core.env.frames inside.core.env none (comes-unowed inside (subst IsPaid (sym same) paid) (ap comes_to_hub same ∙ comes))
+    turns = none-over inside.core.env.frames inside.core.env none (comes-unowed inside (subst NothingPending (sym same) paid) (ap comes_to_hub same ∙ comes))
 
     by : (b : Bool) → cond b turn.NeedsHub (turn_of inside.core.env) ≡ turn.NeedsHub
     by true = refl
@@ -318,10 +321,10 @@ no-cut hub_turn.Nothing w none = λ is. cc
 no-cut (hub_turn.Cut v) w none = absurd none
 
 -- there was nothing to do
-pub nothing-next : (mid new : Run) (s t : HubSeen) → needs_hub mid → (owes_hub mid ≡ false) × (hub_event mid.core.env s.hub ≡ None) → new ≡ mid → t ≡ s
-    → (owes_hub new ≡ false) × (comes_to_hub new ≡ true) × (hub_event new.core.env t.hub ≡ None)
+pub nothing-next : (mid new : Run) (s t : HubSeen) → needs_hub mid → (pending_at_hub mid ≡ false) × (hub_event mid.core.env s.hub ≡ None) → new ≡ mid → t ≡ s
+    → (pending_at_hub new ≡ false) × (comes_to_hub new ≡ true) × (hub_event new.core.env t.hub ≡ None)
 nothing-next mid new s t needs none same stays = (
-  ap owes_hub same ∙ none.0,
+  ap pending_at_hub same ∙ none.0,
   ap comes_to_hub same ∙ needed-comes mid needs,
   ap (λ (r : Run). hub_event r.core.env t.hub) same ∙ (ap (λ (h : HubSeen). hub_event mid.core.env h.hub) stays ∙ none.1),
 )

@@ -40,7 +40,7 @@ use Rattle.env_loop.specs.declared.run.FrameEnd.{FrameEnd}
 use Rattle.env_loop.specs.FollowedRuns.{Asks}
 use Rattle.env_loop.specs.Recording.{AddonStates, machine_of, HasSeen, IsRecorded, Continues}
 use Rattle.env_loop.specs.RecordedRuns.{Run, IsSoundEnvironment, Holds, IsRunning}
-use Rattle.env_loop.specs.Turns.{ReplyIsNoted, OnlyInnermostChanges, IsTurn, OwesMore}
+use Rattle.env_loop.specs.Turns.{ReplyIsNoted, OnlyInnermostChanges, IsTurn, BecamePending}
 use Rattle.env_loop.proofs.LocalGoing.{if_some-none, local-goes, stages-same}
 use Rattle.env_loop.proofs.MadeTurns.{running-idle, states-same, made-turn}
 use Rattle.env_loop.proofs.Recordings.{own-grown}
@@ -235,7 +235,7 @@ not-shared c never = by (is_shared c) refl
 -- the hub is to answer what the innermost frame asks
 shared-owes : {ps : List Plan} {old : Run} {all : AddonStates} {f : Frame} {a : Ask} → InFrame ps old.core.env all.registers f a → (c : Call)
     → old.ending ≡ None → ask.Do c ≡ a
-    → OwesMore ps old all (record old { core = awaiting (shared_call_of old.core.env c) old.core }) all
+    → BecamePending ps old all (record old { core = awaiting (shared_call_of old.core.env c) old.core }) all
 shared-owes {ps} {old} {all} {f} {a} i c unended is = record {
   core = refl;
   begun = refl;
@@ -275,11 +275,11 @@ shared-owes {ps} {old} {all} {f} {a} i c unended is = record {
 pub shared-more : {ps : List Plan} {old : Run} {all : AddonStates} {f : Frame} {a : Ask} → InFrame ps old.core.env all.registers f a
     → (c : Call) (h : SharedCall) (new : Core) (now : AddonStates) → old.ending ≡ None → ask.Do c ≡ a
     → (h ≡ shared_call_of old.core.env c) × (new ≡ awaiting h old.core)
-    → now.registers ≡ all.registers → now.seen ≡ all.seen → OwesMore ps old all (record old { core = new }) now
+    → now.registers ≡ all.registers → now.seen ≡ all.seen → BecamePending ps old all (record old { core = new }) now
 shared-more {ps} {old} {all} {f} {a} i c h new now unended is handed registers seen =
     let made : new ≡ awaiting (shared_call_of old.core.env c) old.core = handed.1 ∙ ap (λ x. awaiting x old.core) handed.0 in
-    let N : Core → Type 0 = λ x. OwesMore ps old all (record old { core = x }) now in
-    let A : AddonStates → Type 0 = λ x. OwesMore ps old all (record old { core = awaiting (shared_call_of old.core.env c) old.core }) x in
+    let N : Core → Type 0 = λ x. BecamePending ps old all (record old { core = x }) now in
+    let A : AddonStates → Type 0 = λ x. BecamePending ps old all (record old { core = awaiting (shared_call_of old.core.env c) old.core }) x in
     subst N (sym made) (subst A (sym (states-same all now registers seen)) (shared-owes i c unended is))
 
 -- the run keeps that it awaits the answer

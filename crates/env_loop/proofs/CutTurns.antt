@@ -1,4 +1,4 @@
--- A frame that may be cut: its call stopped, it has made all its asks, or its cut is owed.
+-- A frame that may be cut: its call stopped, it has made all its asks, or its cut is pending.
 use Rattle.std.proofs.Common.{◌≡◌, ℕ, ◌+◌, ◌<◌, ◌==◌, ◌&&◌, ◌||◌, not, ◌⊎◌, inl, inr, nat_lt, min, Bool, true, false, List, refl, ap, subst, sym, ◌∙◌, Option, Some, None, IfSome, is_some, arith}
 use Rattle.napi_types.specs.declared.call.Ask.{Ask}
 use Rattle.napi_types.specs.declared.call.Ask.TheVariants as ask
@@ -32,7 +32,7 @@ use Rattle.env_loop.specs.declared.run.FrameEnd.{FrameEnd}
 use Rattle.env_loop.specs.declared.run.FrameEnd.TheVariants as end
 use Rattle.env_loop.specs.FollowedRuns.{MayEndSo}
 use Rattle.env_loop.specs.Recording.{AddonStates, machine_of, why_stopped}
-use Rattle.env_loop.specs.RecordedRuns.{Run, IsSoundEnvironment, IsOwedEnd, IsRunning, owes_hub}
+use Rattle.env_loop.specs.RecordedRuns.{Run, IsSoundEnvironment, IsPendingEnd, IsRunning, pending_at_hub}
 use Rattle.env_loop.specs.Turns.{IsAskIn, IsAskOf}
 use Rattle.env_loop.proofs.MadeTurns.{unowed-idle}
 use Rattle.env_loop.proofs.TurnSteps.{two_may, both_may, same-room}
@@ -144,22 +144,22 @@ spent-ends ps old all f sound idle unended top spent =
     record { sound = sound; some = in-some i; idle = idle; free = λ hub. unended; may = λ s front firsts of rec. (refl, would.0, asks-in i s of, all_made, λ owed. absurd (owed unended)) }
 
 -- ITS CUT IS OWED
--- a run that owes nothing to the hub owes the end of no frame of a duty of the hub
+-- a run that has nothing pending at the hub has no end pending of the frame of a duty of the hub
 second-none : (a b : Bool) → (a || b) ≡ false → b ≡ false
 second-none true b none = cc
 second-none false b none = none
 
-pub unowed-local : (run : Run) (how : FrameEnd) → owes_hub run ≡ false → run.ending ≡ Some how → is_hub_duty (duty_of run.core.env.frames) ≡ false
+pub unowed-local : (run : Run) (how : FrameEnd) → pending_at_hub run ≡ false → run.ending ≡ Some how → is_hub_duty (duty_of run.core.env.frames) ≡ false
 unowed-local run how unowed owed =
     let hub : Bool = is_hub_duty (duty_of run.core.env.frames) in
     ap (λ (o : Option FrameEnd). is_some o && hub) (sym owed) ∙ second-none (is_some run.core.awaited) _ unowed
 
-pub owed-ends : (ps : List Plan) (old : Run) (all : AddonStates) (how : FrameEnd) → IsRunning old.core old.begun old.ending → owes_hub old ≡ false
+pub owed-ends : (ps : List Plan) (old : Run) (all : AddonStates) (how : FrameEnd) → IsRunning old.core old.begun old.ending → pending_at_hub old ≡ false
     → old.ending ≡ Some how
     → MayEndInScripts ps old all None how
 owed-ends ps old all how runs unowed owed =
-    let E : Option FrameEnd → Type 0 = λ o. IfSome o (IsOwedEnd old.core.env) in
-    let ends : IsOwedEnd old.core.env how = subst E owed runs.ends in
+    let E : Option FrameEnd → Type 0 = λ o. IfSome o (IsPendingEnd old.core.env) in
+    let ends : IsPendingEnd old.core.env how = subst E owed runs.ends in
     record {
       sound = runs.sound;
       some = ends.stands;

@@ -33,7 +33,7 @@ use Rattle.env_core.specs.Sharing.{after_hub_begin}
 use Rattle.shared_hub.specs.HubStates.{HubSeen, AddsEntry}
 use Rattle.shared_hub.specs.declared.naming.Numbers.{Numbers}
 use Rattle.env_loop.specs.HubTurns.{IsHubTurn, DeliversAt}
-use Rattle.env_loop.specs.RecordedRuns.{Run, owes_hub, IsSoundEnvironment, IsRunning, FitsHub}
+use Rattle.env_loop.specs.RecordedRuns.{Run, pending_at_hub, IsSoundEnvironment, IsRunning, FitsHub}
 use Rattle.env_loop.specs.Recording.{AddonStates, machine_of}
 use Rattle.env_loop.specs.Turns.{hub_event}
 use Rattle.env_loop.proofs.EventTurns.{AtRest, rests, AtHub, IsEvent, TakesIn, after_hub_event, event-turn}
@@ -98,11 +98,11 @@ sound-delivery e d alone uncalled there lasts s = record {
 
 -- and the run is running
 pub delivered-running : (run old : Run) (new : Core) (begun : Option DueInfo) (d info started : DueInfo) (position : ℕ) → run ≡ old
-    → IsRunning run.core run.begun run.ending → owes_hub old ≡ false → old.core.env.frames ≡ [] → d.cause ≢ cause.Call → d.addon < old.core.env.addons
+    → IsRunning run.core run.begun run.ending → pending_at_hub old ≡ false → old.core.env.frames ≡ [] → d.cause ≢ cause.Call → d.addon < old.core.env.addons
     → old.core.env.phase ≢ phase.Gone → new ≡ after_hub_begin info position run.core → info ≡ d → begun ≡ Some started → started ≡ d
     → IsRunning new begun run.ending
 delivered-running run old new begun d info started position same running unowed alone uncalled there lasts made told is begins =
-    let rest : AtRest run = rests run running (ap owes_hub same ∙ unowed) (ap (λ (r : Run). r.core.env.frames) same ∙ alone) in
+    let rest : AtRest run = rests run running (ap pending_at_hub same ∙ unowed) (ap (λ (r : Run). r.core.env.frames) same ∙ alone) in
     let there_here : d.addon < run.core.env.addons = subst (λ (r : Run). d.addon < r.core.env.addons) (sym same) there in
     let lasts_here : run.core.env.phase ≢ phase.Gone = λ gone. lasts (ap (λ (r : Run). r.core.env.phase) (sym same) ∙ gone) in
     let moved : new ≡ after_hub_begin d position run.core = made ∙ ap (λ i. after_hub_begin i position run.core) told in

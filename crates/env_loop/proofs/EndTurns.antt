@@ -1,4 +1,4 @@
--- A turn in which the innermost frame ends, or in which its end is owed to the hub.
+-- A turn in which the innermost frame ends, or in which its end is pending at the hub.
 use Rattle.std.proofs.Common.{◌≡◌, ◌≢◌, ◌<◌, ℕ, ◌-◌, ◌&&◌, ◌||◌, inl, Bool, true, false, List, [], ◌∷◌, refl, ap, subst, sym, ◌∙◌, Option, Some, None, IfSome, IsTrue, is_some}
 use Rattle.std.specs.List.{All}
 use Rattle.std.specs.Option.{option_to_list}
@@ -45,7 +45,7 @@ use Rattle.env_loop.specs.declared.turn.LocalTurn.TheVariants as turn
 use Rattle.env_loop.specs.FollowedRuns.{Asks, StoppedAtHub, MayEndSo, IsRecordedRun}
 use Rattle.env_loop.specs.Recording.{AddonStates, machine_of, HasSeen, IsOf, IsRecorded, RecordsOwn}
 use Rattle.env_loop.specs.RecordedRuns.{Run, IsSoundEnvironment, Holds, IsRunning, cut_at}
-use Rattle.env_loop.specs.Turns.{ReplyIsNoted, OnlyInnermostChanges, IsTurn, OwesMore, MatchTurn, turn_after, EndsHere, EndsOrOwes}
+use Rattle.env_loop.specs.Turns.{ReplyIsNoted, OnlyInnermostChanges, IsTurn, BecamePending, MatchTurn, turn_after, EndsHere, EndsOrOwes}
 use Rattle.env_loop.proofs.LocalGoing.{if_some-none, stages-same}
 use Rattle.env_loop.proofs.MadeTurns.{none-there, running-idle, states-same, turn-made, turn-owes, made-turn}
 use Rattle.env_loop.proofs.Recordings.{local-grown}
@@ -63,8 +63,8 @@ abbrev pub IsToldEnd : List Plan → Registers → Environment → Option Handle
 IsToldEnd ps all e v cut now = ReplyIsNoted ps all (callers_of e) (end_change v cut e).entry.reply now
 
 -- WHY IT MAY END
--- the innermost frame may end so: it asks to leave this, where no end was owed, or it may be cut at what it asks, and leaves nothing. Where an end was owed the
--- hub had stopped it
+-- the innermost frame may end so: it asks to leave this, where no end was pending, or it may be cut at what it asks, and leaves nothing. Where an end was
+-- pending the hub had stopped it
 abbrev pub MayEndAs : Setting → Registers → Machine → Option FrameEnd → Option HandleId → FrameEnd → Type 0
 MayEndAs s rss m owed v end.Leaves = Asks s rss m.env.frames (ask.Leave v) × (may_ask m.env ≡ true) × (owed ≡ None)
 MayEndAs s rss m owed v (end.Cut w) = (v ≡ None) × (a : Ask) × Asks s rss m.env.frames a × (may_cut m a w ≡ true) × (owed ≢ None → StoppedAtHub a w)
@@ -188,7 +188,7 @@ ended-turn ps old new all now v how i local here same =
 -- ITS END IS OWED
 pub owed-end : (ps : List Plan) (old : Run) (all : AddonStates) (v : Option HandleId) (how : FrameEnd) → MayEndInScripts ps old all v how
     → is_hub_duty (duty_of old.core.env.frames) ≡ true
-    → OwesMore ps old all (record old { ending = Some how }) all
+    → BecamePending ps old all (record old { ending = Some how }) all
 owed-end ps old all v how i hub = record {
   core = refl;
   begun = refl;
@@ -216,7 +216,7 @@ owed-end ps old all v how i hub = record {
     either false = refl
 
 -- EITHER
--- a turn at which the innermost frame ends, or its end is owed, whichever it is
+-- a turn at which the innermost frame ends, or its end is pending, whichever it is
 pub ends-turn : (b : Bool) (ps : List Plan) (old new : Run) (all now : AddonStates) (v : Option HandleId) (how : FrameEnd) (r : LocalTurn)
     → MayEndInScripts ps old all v how
     → b ≡ is_hub_duty (duty_of old.core.env.frames) → EndsOrOwes b ps all.registers old v how new now.registers → now.seen ≡ all.seen
@@ -228,10 +228,10 @@ ends-turn false ps old new all now v how r i local here same is =
     subst P (sym made) (ended-turn ps old new all now v how i (sym local) here same)
 ends-turn true ps old new all now v how r i hub owed same is =
     let states : now ≡ all = states-same all now owed.1 same in
-    let made : OwesMore ps old all (record old { ending = Some how }) all = owed-end ps old all v how i (sym hub) in
-    let N : Run → Type 0 = λ x. OwesMore ps old all x now in
-    let A : AddonStates → Type 0 = λ x. OwesMore ps old all (record old { ending = Some how }) x in
-    let more : OwesMore ps old all new now = subst N (sym owed.0) (subst A (sym states) made) in
+    let made : BecamePending ps old all (record old { ending = Some how }) all = owed-end ps old all v how i (sym hub) in
+    let N : Run → Type 0 = λ x. BecamePending ps old all x now in
+    let A : AddonStates → Type 0 = λ x. BecamePending ps old all (record old { ending = Some how }) x in
+    let more : BecamePending ps old all new now = subst N (sym owed.0) (subst A (sym states) made) in
     let P : LocalTurn → Type 0 = λ x. MatchTurn x ps old all new now in
     subst P (sym (is ∙ turn-owes new old.core.env more.owes)) (inl more)
 

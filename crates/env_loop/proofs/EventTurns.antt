@@ -1,4 +1,4 @@
--- The hub's events: which one is next where nothing is owed to the hub, and what it makes of a run.
+-- The hub's events: which one is next where nothing is pending at the hub, and what it makes of a run.
 use Rattle.std.proofs.Common.{◌≡◌, ◌≢◌, ◌⊎◌, inl, inr, ℕ, ◌+◌, true, false, cond, ◌&&◌, ◌||◌, List, [], ◌∷◌, ◌++◌, length, drop, refl, ap, subst, sym, ◌∙◌, Option, Some, None, is_some, length-append}
 use Rattle.std.specs.Option.{option_or, option_to_list}
 use Rattle.napi_types.specs.declared.call.Ask.TheVariants as ask
@@ -33,7 +33,7 @@ use Rattle.shared_hub.specs.KeptHubs.{IsLedHub}
 use Rattle.shared_hub.specs.declared.naming.Numbers.{Numbers}
 use Rattle.env_loop.specs.FollowedRuns.{IsRecordedRun, IsFollowed, taken_in, HasNumbers, GoesOnAt}
 use Rattle.env_loop.specs.HubTurns.{SpentAtFinals, IsHubTurn, MatchHubTurn}
-use Rattle.env_loop.specs.RecordedRuns.{Run, owes_hub, IsRunning, FitsHub}
+use Rattle.env_loop.specs.RecordedRuns.{Run, pending_at_hub, IsRunning, FitsHub}
 use Rattle.env_loop.specs.Recording.{AddonStates, machine_of, AgreesWith, HasSeen, IsOf, IsRecorded, RecordsOwn}
 use Rattle.env_loop.specs.SharedEntries.{shared_step}
 use Rattle.env_loop.specs.Turns.{event_turn, turn_at, turn_of, needs_hub, hub_event, hub_duty_info_of, begins_at_hub, OnlyInnermostChanges}
@@ -55,22 +55,22 @@ pub record AtRest (run : Run) : Type 0 where
   pub frames : run.core.env.frames ≡ []
   pub awaited : run.core.awaited ≡ None
   pub ending : run.ending ≡ None
-  pub unowed : owes_hub run ≡ false
+  pub unowed : pending_at_hub run ≡ false
 
 pub needs-none : (fs : List Frame) (e : Environment) → turn_at fs e ≡ turn.NeedsHub → fs ≡ []
 needs-none [] e h = refl
 needs-none (f ∷ fs) e h = cc
 
-unowed-needs : (run : Run) → owes_hub run ≡ false → needs_hub run → turn_of run.core.env ≡ turn.NeedsHub
+unowed-needs : (run : Run) → pending_at_hub run ≡ false → needs_hub run → turn_of run.core.env ≡ turn.NeedsHub
 unowed-needs run unowed needs = sym (ap (λ b. cond b turn.NeedsHub (turn_of run.core.env)) unowed) ∙ needs
 
-pub rests : (run : Run) → IsRunning run.core run.begun run.ending → owes_hub run ≡ false → run.core.env.frames ≡ [] → AtRest run
+pub rests : (run : Run) → IsRunning run.core run.begun run.ending → pending_at_hub run ≡ false → run.core.env.frames ≡ [] → AtRest run
 rests run running unowed alone =
     let idle : IsIdleRun run.core run.begun run.ending = idle-run run running unowed alone in
     record { frames = alone; awaited = idle.awaited; ending = idle.ended; unowed = unowed }
 
--- where no call is awaited and no frame is to end, nothing is owed
-pub owes-nothing : (run : Run) → run.core.awaited ≡ None → run.ending ≡ None → owes_hub run ≡ false
+-- where no call is awaited and no frame is to end, nothing is pending
+pub owes-nothing : (run : Run) → run.core.awaited ≡ None → run.ending ≡ None → pending_at_hub run ≡ false
 owes-nothing run awaited ending =
     ap (λ o. is_some o || (is_some run.ending && is_hub_duty (duty_of run.core.env.frames))) awaited
     ∙ ap (λ (o : Option FrameEnd). is_some o && is_hub_duty (duty_of run.core.env.frames)) ending
@@ -110,7 +110,7 @@ pub of-hub : (e : Environment) (h : Hub) → local_choice e ≡ None → hub_eve
 of-hub e h none = ap (λ o. option_or o (hub_choice h (waiting_hooks e))) none
 
 -- A TURN AT THE HUB
--- what is known of a run and its hub where nothing is owed and the hub is needed
+-- what is known of a run and its hub where nothing is pending and the hub is needed
 pub record AtHub (n : Numbers) (run : Run) (seen : HubSeen) : Type 0 where
   pub running : IsRunning run.core run.begun run.ending
   pub rest : AtRest run
@@ -118,12 +118,12 @@ pub record AtHub (n : Numbers) (run : Run) (seen : HubSeen) : Type 0 where
   pub led : IsLedHub n seen
   pub fits : FitsHub run seen
 
-pub at-hub : (n : Numbers) (run old : Run) (seen : HubSeen) → run ≡ old → IsRunning run.core run.begun run.ending → owes_hub old ≡ false → needs_hub old
+pub at-hub : (n : Numbers) (run old : Run) (seen : HubSeen) → run ≡ old → IsRunning run.core run.begun run.ending → pending_at_hub old ≡ false → needs_hub old
     → IsLedHub n seen → FitsHub old seen → AtHub n run seen
 at-hub n run old seen same running unowed needs led fits =
     let fits_here : FitsHub run seen = subst (λ (r : Run). FitsHub r seen) (sym same) fits in
     let needs_here : needs_hub run = subst (λ (r : Run). needs_hub r) (sym same) needs in
-    let unowed_here : owes_hub run ≡ false = ap owes_hub same ∙ unowed in
+    let unowed_here : pending_at_hub run ≡ false = ap pending_at_hub same ∙ unowed in
     let rest : AtRest run = rests run running unowed_here (needs-none run.core.env.frames run.core.env (unowed-needs run unowed_here needs_here)) in
     record { running = running; rest = rest; needs = local-needs run rest needs_here; led = led; fits = fits_here }
 

@@ -1,4 +1,4 @@
--- A run that is followed takes in what others added, with what it owes.
+-- A run that is followed takes in what others added, with what is pending.
 use Rattle.std.proofs.Common.{◌∙◌, ◌+◌, ◌≤◌, arith, ℕ, Bool, true, false, not, ◌&&◌, ◌||◌, cond, List, ◌++◌, ◌≡◌, length, refl, ap, subst, sym, length-append, append_assoc, Option, Some, None}
 use Rattle.std.specs.Prelude.{IfSome}
 use Rattle.std.specs.List.{All}
@@ -38,7 +38,7 @@ use Rattle.env_loop.specs.declared.run.FrameEnd.{FrameEnd}
 use Rattle.env_loop.specs.declared.run.FrameEnd.TheVariants as end
 use Rattle.env_loop.specs.Recording.{AddonStates, machine_of, HasSeen, IsRecorded}
 use Rattle.env_loop.specs.RecordedRuns.{Run, FitsHub}
-use Rattle.env_loop.specs.FollowedRuns.{MayEndSo, IsOwed, IsRecordedRun, taken_in, FittingRunsStand, OthersAreTakenIn, OthersMayAdd}
+use Rattle.env_loop.specs.FollowedRuns.{MayEndSo, PendingIsAsked, IsRecordedRun, taken_in, FittingRunsStand, OthersAreTakenIn, OthersMayAdd}
 
 -- THE RUN
 module _ (s : Setting) (core : Core) (front rest : List Entry) (all : AddonStates) (firsts : List (List DueInfo))
@@ -99,7 +99,7 @@ module _ (m : Machine) (h : Hub) (n : ℕ)
   cut-stays (ask.Leave v) why.Full is = is
   cut-stays (ask.Leave v) why.Memory is = is
 
-  -- so the frame may still end as is owed
+  -- so the frame may still end as is pending
   end-stays : (s : Setting) (rss : Registers) (how : FrameEnd) → MayEndSo s rss m how → MayEndSo s rss (record m { hub = h; history_length = n }) how
   end-stays s rss end.Leaves may = may
   end-stays s rss (end.Cut w) may = (may.0, may.1, cut-stays may.0 w may.2, may.3)
@@ -109,17 +109,18 @@ module _ (m : Machine) (h : Hub) (n : ℕ)
   owed-end s rss (Some how) may = end-stays s rss how may
 
 module _ (s : Setting) (run : Run) (front rest : List Entry) (all : AddonStates) (others : All (λ x. is_environment x.actor ≡ false) rest)
-    (o : IsOwed s all.registers (machine_of s.limits run.core (hub_along (opening_of s).hub front) front) run)
+    (o : PendingIsAsked s all.registers (machine_of s.limits run.core (hub_along (opening_of s).hub front) front) run)
     (k : GoesOnBehind s.limits.history s.threads s.workers front rest (hub_along (opening_of s).hub (front ++ rest))) where
   pressed : (c : Call) → StaysPressed s.limits.history (hub_along (opening_of s).hub front) (length front) rest c
   pressed c = calls-stay-pressed s.limits.history s.threads s.workers front rest (hub_along (opening_of s).hub front) c k.leads others k.replays
 
   abbrev Owed : Hub → ℕ → Type 0
   Owed h n =
-      IsOwed s all.registers (record (machine_of s.limits run.core (hub_along (opening_of s).hub front) front) { hub = h; history_length = n })
+      PendingIsAsked s all.registers (record (machine_of s.limits run.core (hub_along (opening_of s).hub front) front) { hub = h; history_length = n })
       (taken_in (front ++ rest) run)
 
-  owed-stays : IsOwed s all.registers (machine_of s.limits run.core (hub_along (opening_of s).hub (front ++ rest)) (front ++ rest)) (taken_in (front ++ rest) run)
+  owed-stays : PendingIsAsked s all.registers (machine_of s.limits run.core (hub_along (opening_of s).hub (front ++ rest)) (front ++ rest))
+      (taken_in (front ++ rest) run)
   owed-stays =
       let h : Hub = hub_along (opening_of s).hub front in
       let behind : Owed (hub_along h rest) (length front + length rest) = record {

@@ -36,7 +36,7 @@ replays-in n s before k numbers =
     let W : ℕ → Type 0 = λ w. HubReplays n.limits.history (new_hub n.threads w) 0 before.history in
     subst L (sym numbers.limit) (subst T (sym numbers.threads) (subst W (sym numbers.workers) k.led.replays))
 
--- a run that is recorded over the whole history is followed, where the environment made the last entry unless an end is owed
+-- a run that is recorded over the whole history is followed, where the environment made the last entry unless an end is pending
 pub followed-whole : (s : Setting) (run : Run) (history : List Entry) (all : AddonStates) (firsts : List (List DueInfo)) → IsRecordedRun s run history all firsts
     → (run.ending ≡ None → IsBehindOwn run.core history)
     → IsFollowed s run history all firsts

@@ -19,7 +19,7 @@ pub mod LoopTurns
 pub mod MadeTurns
 pub mod KeptPromises
 pub mod NeededTurns
-pub mod OwedEnds
+pub mod PendingEnds
 pub mod PlainEvents
 pub mod Recordings
 pub mod RegisterTurns

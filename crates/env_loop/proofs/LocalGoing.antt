@@ -16,7 +16,7 @@ use Rattle.env_loop.specs.FollowedRuns.{RunGoesOn}
 pub if_some-none : {A : Type 0} (P : A → Type 0) {o : Option A} → o ≡ None → IfSome o P
 if_some-none {A} P {o} none = let Q : Option A → Type 0 = λ x. IfSome x P in subst Q (sym none) tt
 
--- a turn goes on over each history, where nothing is owed before it and after it
+-- a turn goes on over each history, where nothing is pending before it and after it
 pub local-goes : (plans : List Plan) (old new : Run) (all now : AddonStates) → Continues plans old.core all new.core now → old.ending ≡ None
     → new.core.awaited ≡ None → new.ending ≡ None
     → (history : List Entry) → RunGoesOn plans old history all new history now

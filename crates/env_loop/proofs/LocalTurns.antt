@@ -17,29 +17,29 @@ use Rattle.env_loop.specs.declared.run.FrameEnd.{FrameEnd}
 use Rattle.env_loop.specs.declared.turn.LocalTurn.{LocalTurn}
 use Rattle.env_loop.specs.declared.turn.LocalTurn.TheVariants as turn
 use Rattle.env_loop.specs.Recording.{AddonStates, HasSeen}
-use Rattle.env_loop.specs.RecordedRuns.{Run, IsSoundEnvironment, IsAwaited, IsOwedEnd, IsRunning, hub_begun, owes_hub, FitsHub, OneMore}
+use Rattle.env_loop.specs.RecordedRuns.{Run, IsSoundEnvironment, IsAwaited, IsPendingEnd, IsRunning, hub_begun, pending_at_hub, FitsHub, OneMore}
 use Rattle.env_loop.specs.FollowedRuns.{IsFollowed, RunGoesOn}
-use Rattle.env_loop.specs.Turns.{event_turn, turn_at, turn_after, next_ticket_info, OnlyInnermostChanges, IsTurn, OwesAlone, OwesMore, IsSame, MatchTurn, EndsSo, EndsOrOwes}
+use Rattle.env_loop.specs.Turns.{event_turn, turn_at, turn_after, next_ticket_info, OnlyInnermostChanges, IsTurn, OnlyPendingChanged, BecamePending, IsSame, MatchTurn, EndsSo, EndsOrOwes}
 use Rattle.env_loop.proofs.CutTurns.{unowed-local}
 use Rattle.env_loop.proofs.LocalGoing.{stages-same, fits-local}
 use Rattle.env_loop.proofs.SeenLists.{begins-none, seen-stays}
 
 -- WHERE SOMETHING IS OWED
 -- a frame stands
-owed-stands : (e : Environment) (o : Option SharedCall) (q : Option FrameEnd) (b : Bool) → IfSome o (IsAwaited e) → IfSome q (IsOwedEnd e)
+owed-stands : (e : Environment) (o : Option SharedCall) (q : Option FrameEnd) (b : Bool) → IfSome o (IsAwaited e) → IfSome q (IsPendingEnd e)
     → (is_some o || (is_some q && b)) ≡ true → e.frames ≢ []
 owed-stands e (Some c) q b a w owes = a.stands
 owed-stands e None (Some how) b a w owes = w.stands
 owed-stands e None None b a w owes = cc
 
-pub owes-stands : (run : Run) → IsRunning run.core run.begun run.ending → owes_hub run ≡ true → run.core.env.frames ≢ []
+pub owes-stands : (run : Run) → IsRunning run.core run.begun run.ending → pending_at_hub run ≡ true → run.core.env.frames ≢ []
 owes-stands run runs owes = owed-stands run.core.env run.core.awaited run.ending _ runs.awaited runs.ends owes
 
 -- so no ticket begins
-pub owes-unbegun : (inside old : Run) → inside ≡ old → IsRunning inside.core inside.begun inside.ending → owes_hub old ≡ true
+pub owes-unbegun : (inside old : Run) → inside ≡ old → IsRunning inside.core inside.begun inside.ending → pending_at_hub old ≡ true
     → next_ticket_info old.core.env ≡ None
 owes-unbegun inside old same runs owes =
-    ap (λ (r : Run). next_ticket_info r.core.env) (sym same) ∙ begins-none inside.core.env (owes-stands inside runs (ap owes_hub same ∙ owes))
+    ap (λ (r : Run). next_ticket_info r.core.env) (sym same) ∙ begins-none inside.core.env (owes-stands inside runs (ap pending_at_hub same ∙ owes))
 
 -- THE ROOM
 -- the journal of an environment that is not gone has a place left, since it owes the entry of its end
@@ -60,7 +60,7 @@ none-made false e [] is gone alone made = let no : turn.Gone ≡ turn.Made = sym
 pub room-left : (new : Run) (core : Core) → IsSoundEnvironment core.env → turn_after new core.env ≡ turn.Made → (room_in core).occupied ≤ core.limit
     → length core.journal < core.limit
 room-left new core sound made room =
-    let there : core.env.phase ≢ phase.Gone = λ gone. none-made (owes_hub new) core.env core.env.frames refl gone (sound.gone gone) made in
+    let there : core.env.phase ≢ phase.Gone = λ gone. none-made (pending_at_hub new) core.env core.env.frames refl gone (sound.gone gone) made in
     let owed : 1 ≤ gone_place core.env.phase = gone-owed core.env.phase there in
     omega (arith, owed, room)
 
@@ -78,11 +78,11 @@ ends-here false ps all now old new how h e = e.ended
 
 -- so it ended here
 pub ends-owed : (ps : List Plan) (all now : Registers) (inside old new : Run) (how : FrameEnd) (b : Bool) → inside ≡ old → b ≡ is_hub_duty (duty_of inside.core.env.frames)
-    → Some how ≡ inside.ending → owes_hub old ≡ false → EndsOrOwes b ps all old None how new now → IfSome old.ending (λ h. EndsSo h old.core new.core)
+    → Some how ≡ inside.ending → pending_at_hub old ≡ false → EndsOrOwes b ps all old None how new now → IfSome old.ending (λ h. EndsSo h old.core new.core)
 ends-owed ps all now inside old new how b same duty is unowed e =
     let Q : Option FrameEnd → Type 0 = λ o. IfSome o (λ h. EndsSo h old.core new.core) in
     subst Q (is ∙ ap (λ (r : Run). r.ending) same)
-    (ends-here b ps all now old new how (duty ∙ unowed-local inside how (ap owes_hub same ∙ unowed) (sym is)) e)
+    (ends-here b ps all now old new how (duty ∙ unowed-local inside how (ap pending_at_hub same ∙ unowed) (sym is)) e)
 
 -- none is owed where none is kept, ..
 pub ends-none : (inside old : Run) (new : Core) → inside ≡ old → inside.ending ≡ None → IfSome old.ending (λ h. EndsSo h old.core new)
@@ -92,23 +92,23 @@ ends-none inside old new same none =
     subst P same (subst Q (sym none) tt)
 
 -- .. nor where no frame stands
-ends-unstood : (e : Environment) (o : Option FrameEnd) (P : FrameEnd → Type 0) → IfSome o (IsOwedEnd e) → e.frames ≡ [] → IfSome o P
+ends-unstood : (e : Environment) (o : Option FrameEnd) (P : FrameEnd → Type 0) → IfSome o (IsPendingEnd e) → e.frames ≡ [] → IfSome o P
 ends-unstood e None P owed alone = tt
 ends-unstood e (Some how) P owed alone = absurd (owed.stands alone)
 
 pub ends-alone : (inside old : Run) (new : Core) → inside ≡ old → IsRunning inside.core inside.begun inside.ending → inside.core.env.frames ≡ []
-    → IfSome old.ending (λ h. owes_hub old ≡ false → EndsSo h old.core new)
+    → IfSome old.ending (λ h. pending_at_hub old ≡ false → EndsSo h old.core new)
 ends-alone inside old new same runs alone =
-    let P : Run → Type 0 = λ r. IfSome r.ending (λ h. owes_hub r ≡ false → EndsSo h r.core new) in
-    subst P same (ends-unstood inside.core.env inside.ending (λ h. owes_hub inside ≡ false → EndsSo h inside.core new) runs.ends alone)
+    let P : Run → Type 0 = λ r. IfSome r.ending (λ h. pending_at_hub r ≡ false → EndsSo h r.core new) in
+    subst P same (ends-unstood inside.core.env inside.ending (λ h. pending_at_hub inside ≡ false → EndsSo h inside.core new) runs.ends alone)
 
 -- WHAT IT TELLS
 pub record TurnTells (t : LocalTurn) (ps : List Plan) (old : Run) (all : AddonStates) (new : Run) (now : AddonStates) : Type 0 where
   pub made : t ≡ turn.Made → OneMore old.core.journal new.core.journal
   pub paid : t ≡ turn.Made → new.ending ≡ None
-  pub stays : t ≢ turn.Made → owes_hub new ≡ false → new ≡ old
-  pub owes : t ≢ turn.Made → OwesAlone old new
-  pub free : owes_hub old ≡ false → owes_hub new ≡ true → old.ending ≡ None
+  pub stays : t ≢ turn.Made → pending_at_hub new ≡ false → new ≡ old
+  pub owes : t ≢ turn.Made → OnlyPendingChanged old new
+  pub free : pending_at_hub old ≡ false → pending_at_hub new ≡ true → old.ending ≡ None
   pub same : t ≢ turn.Made → now ≡ all
   pub goes : (history : List Entry) → RunGoesOn ps old history all new history now
   pub fits : (hub : HubSeen) → FitsHub old hub → FitsHub new hub
@@ -123,7 +123,7 @@ unowed-made o q b idle unended = rw (idle, unended) refl
 
 tells-made : (ps : List Plan) (old new : Run) (all now : AddonStates) → IsTurn ps old all new now → TurnTells turn.Made ps old all new now
 tells-made ps old new all now m =
-    let unowed : owes_hub new ≡ false = unowed-made new.core.awaited new.ending _ m.kept.awaited m.kept.ending in
+    let unowed : pending_at_hub new ≡ false = unowed-made new.core.awaited new.ending _ m.kept.awaited m.kept.ending in
     record {
       made = λ is. m.kept.one;
       paid = λ is. m.kept.ending;
@@ -141,7 +141,7 @@ tells-made ps old new all now m =
     }
 
 module _ (t : LocalTurn) (ps : List Plan) (old new : Run) (all now : AddonStates) (unmade : t ≢ turn.Made) (none : next_ticket_info old.core.env ≡ None) where
-  tells-owing : OwesMore ps old all new now → TurnTells t ps old all new now
+  tells-owing : BecamePending ps old all new now → TurnTells t ps old all new now
   tells-owing o = record {
     made = λ is. absurd (unmade is);
     paid = λ is. absurd (unmade is);
@@ -166,8 +166,8 @@ module _ (t : LocalTurn) (ps : List Plan) (old new : Run) (all now : AddonStates
         made = λ is. absurd (unmade is);
         paid = λ is. absurd (unmade is);
         stays = λ un unowed. s.run;
-        owes = λ un. subst (OwesAlone old) (sym s.run) refl;
-        free = λ before owes. let no : false ≡ true = sym before ∙ ap owes_hub (sym s.run) ∙ owes in cc;
+        owes = λ un. subst (OnlyPendingChanged old) (sym s.run) refl;
+        free = λ before owes. let no : false ≡ true = sym before ∙ ap pending_at_hub (sym s.run) ∙ owes in cc;
         same = λ un. s.addons;
         goes = λ history setting firsts of f.
             let N : AddonStates → Type 0 = λ x. IsFollowed setting old history x firsts in

@@ -1,4 +1,4 @@
--- A turn that leaves one entry in the journal, and one after which something is owed to the hub.
+-- A turn that leaves one entry in the journal, and one after which something is pending at the hub.
 use Rattle.std.proofs.Common.{◌≡◌, ◌≢◌, ◌&&◌, ◌||◌, Bool, true, false, cond, List, [], ◌∷◌, drop, refl, ap, subst, sym, ◌∙◌, Option, Some, None, is_some}
 use Rattle.std.specs.Option.{option_to_list}
 use Rattle.napi_types.specs.declared.duties.DueInfo.{DueInfo}
@@ -13,7 +13,7 @@ use Rattle.env_loop.specs.declared.run.FrameEnd.{FrameEnd}
 use Rattle.env_loop.specs.declared.turn.LocalTurn.TheVariants as turn
 use Rattle.env_loop.specs.FollowedRuns.{RunGoesOn}
 use Rattle.env_loop.specs.Recording.{AddonStates, HasSeen}
-use Rattle.env_loop.specs.RecordedRuns.{Run, IsSoundEnvironment, Holds, IsRunning, hub_begun, owes_hub}
+use Rattle.env_loop.specs.RecordedRuns.{Run, IsSoundEnvironment, Holds, IsRunning, hub_begun, pending_at_hub}
 use Rattle.env_loop.specs.Turns.{turn_of, turn_after, next_ticket_info, OnlyInnermostChanges, IsTurn}
 use Rattle.env_loop.proofs.LocalGoing.{if_some-none, KeepsStages, fits-local}
 
@@ -22,16 +22,16 @@ pub none-there : {A : Type 0} (o : Option A) → is_some o ≡ false → o ≡ N
 none-there None none = refl
 none-there (Some x) none = cc
 
--- a run that owes nothing to the hub awaits no answer
+-- a run that has nothing pending at the hub awaits no answer
 first-none : (a b : Bool) → (a || b) ≡ false → a ≡ false
 first-none true b none = cc
 first-none false b none = refl
 
-pub unowed-idle : (run : Run) → owes_hub run ≡ false → run.core.awaited ≡ None
+pub unowed-idle : (run : Run) → pending_at_hub run ≡ false → run.core.awaited ≡ None
 unowed-idle run unowed = none-there run.core.awaited (first-none (is_some run.core.awaited) _ unowed)
 
 -- WHAT IS KEPT
--- a run keeps what it has to, where it owes nothing
+-- a run keeps what it has to, where nothing is pending
 pub running-idle : (core : Core) (begun : Option DueInfo) (ending : Option FrameEnd) → IsSoundEnvironment core.env → Holds core.env.frames begun
     → core.awaited ≡ None → ending ≡ None
     → IsRunning core begun ending
@@ -48,7 +48,7 @@ pub states-same : (all now : AddonStates) → now.registers ≡ all.registers �
 states-same all now registers seen = ap (λ r. record now { registers = r }) registers ∙ ap (λ t. record all { seen = t }) seen
 
 -- ITS RESULT
--- a turn that leaves nothing owed made its entry, where a frame stood
+-- a turn that leaves nothing pending made its entry, where a frame stood
 unowed : (o : Option SharedCall) (q : Option FrameEnd) (b : Bool) → o ≡ None → q ≡ None → (is_some o || is_some q && b) ≡ false
 unowed o q b idle unended = rw (idle, unended) refl
 
@@ -61,8 +61,8 @@ turn-made new e idle unended some =
     ap (λ b. cond b turn.NeedsHub (turn_of e)) (unowed new.core.awaited new.ending (is_hub_duty (duty_of new.core.env.frames)) idle unended)
     ∙ stood e.frames e refl some
 
--- where something is owed the hub has to make its turn
-pub turn-owes : (new : Run) (e : Environment) → owes_hub new ≡ true → turn_after new e ≡ turn.NeedsHub
+-- where something is pending the hub has to make its turn
+pub turn-owes : (new : Run) (e : Environment) → pending_at_hub new ≡ true → turn_after new e ≡ turn.NeedsHub
 turn-owes new e owes = ap (λ b. cond b turn.NeedsHub (turn_of e)) owes
 
 -- ONE ENTRY MORE

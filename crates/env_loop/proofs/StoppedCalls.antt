@@ -80,7 +80,7 @@ stopped-there q h c why.Full shared stops = ap (λ b. b && true) shared
 stopped-there q h c why.Memory shared stops = ap (λ b. b && true) shared
 stopped-there q h c why.Asks shared stops = absurd stops
 
--- the run owes the cut
+-- the cut is pending
 stopped-run : (s : Setting) (n : Numbers) (old : Run) (c : SharedCall) (w : Why) (before : HubSeen) (all : AddonStates) (firsts : List (List DueInfo))
     → IsLedHub n before → HasNumbers s n
     → IsAwaited old.core.env c → old.core.awaited ≡ Some c → StopsIn (hub_room n before) before.hub c w

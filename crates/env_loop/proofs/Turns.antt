@@ -21,7 +21,7 @@ use Rattle.napi_types.proofs.environment.StandingFrames.{nested-init}
 use Rattle.env_core.specs.Core.{Core, after_change}
 use Rattle.env_loop.specs.declared.run.FrameEnd.{FrameEnd}
 use Rattle.env_loop.specs.Recording.{AddonStates, Continues}
-use Rattle.env_loop.specs.RecordedRuns.{Run, IsSoundEnvironment, IsOwedEnd, Holds, IsRunning, hub_begun, owes_hub}
+use Rattle.env_loop.specs.RecordedRuns.{Run, IsSoundEnvironment, IsPendingEnd, Holds, IsRunning, hub_begun, pending_at_hub}
 use Rattle.env_loop.specs.Turns.{ticket_info_of, IsTurn}
 use Rattle.env_loop.proofs.LocalGoing.{local-goes, KeepsStages, stages-same}
 use Rattle.env_loop.proofs.MadeTurns.{unowed-idle, made-turn}
@@ -35,7 +35,7 @@ pub none-held : (fs : List Frame) (begun : Option DueInfo) → Holds fs begun �
 none-held fs None held alone = refl
 none-held fs (Some d) held alone = let no : [] ≡ d.duty ∷ [] = sym (ap duties_of alone) ∙ held in cc
 
--- a run of which no frame stands, and which owes nothing
+-- a run of which no frame stands, and which has nothing pending
 pub record IsIdleRun (core : Core) (begun : Option DueInfo) (ending : Option FrameEnd) : Type 0 where
   pub sound : IsSoundEnvironment core.env
   pub alone : core.env.frames ≡ []
@@ -43,11 +43,12 @@ pub record IsIdleRun (core : Core) (begun : Option DueInfo) (ending : Option Fra
   pub ended : ending ≡ None
   pub none : begun ≡ None
 
-none-ending : (e : Environment) (o : Option FrameEnd) → IfSome o (IsOwedEnd e) → e.frames ≡ [] → o ≡ None
+none-ending : (e : Environment) (o : Option FrameEnd) → IfSome o (IsPendingEnd e) → e.frames ≡ [] → o ≡ None
 none-ending e None owed alone = refl
 none-ending e (Some how) owed alone = absurd (owed.stands alone)
 
-pub idle-run : (run : Run) → IsRunning run.core run.begun run.ending → owes_hub run ≡ false → run.core.env.frames ≡ [] → IsIdleRun run.core run.begun run.ending
+pub idle-run : (run : Run) → IsRunning run.core run.begun run.ending → pending_at_hub run ≡ false → run.core.env.frames ≡ []
+    → IsIdleRun run.core run.begun run.ending
 idle-run run runs unowed alone = record {
   sound = runs.sound;
   alone = alone;
@@ -57,9 +58,9 @@ idle-run run runs unowed alone = record {
 }
 
 -- the same of a run as it is seen
-pub idle-seen : (inside old : Run) → inside ≡ old → IsRunning inside.core inside.begun inside.ending → owes_hub old ≡ false → old.core.env.frames ≡ []
+pub idle-seen : (inside old : Run) → inside ≡ old → IsRunning inside.core inside.begun inside.ending → pending_at_hub old ≡ false → old.core.env.frames ≡ []
     → IsIdleRun inside.core inside.begun inside.ending
-idle-seen inside old same runs unowed alone = idle-run inside runs (ap owes_hub same ∙ unowed) (ap (λ (r : Run). r.core.env.frames) same ∙ alone)
+idle-seen inside old same runs unowed alone = idle-run inside runs (ap pending_at_hub same ∙ unowed) (ap (λ (r : Run). r.core.env.frames) same ∙ alone)
 
 -- WHICH EVENT IS NEXT
 -- the init frame of an addon is, in the first phase, where one is to come

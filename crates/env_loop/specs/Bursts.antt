@@ -20,7 +20,7 @@ use Rattle.env_loop.specs.declared.run.HubTurn.TheVariants as hub_turn
 use Rattle.env_loop.specs.declared.turn.LocalTurn.{LocalTurn}
 use Rattle.env_loop.specs.declared.turn.LocalTurn.TheVariants as turn
 use Rattle.env_loop.specs.Recording.{AddonStates}
-use Rattle.env_loop.specs.RecordedRuns.{Run, owes_hub, FitsHub}
+use Rattle.env_loop.specs.RecordedRuns.{Run, pending_at_hub, FitsHub}
 use Rattle.env_loop.specs.FollowedRuns.{GoesOnAt}
 use Rattle.env_loop.specs.HubTurns.{KeepsJournal}
 use Rattle.env_loop.specs.Turns.{event_turn}
@@ -39,15 +39,15 @@ abbrev pub is_of_hub : LocalTurn → Bool
 is_of_hub turn.NeedsHub = true
 is_of_hub _ = false
 
--- the hub makes the next event, whatever an addon asks: the end of a frame of one of its duties, which makes no ask more; or, where no frame stands, an event that
--- the environment does not decide alone, or the end of the loop
+-- the hub makes the next event, whatever an addon asks: the end of a frame of one of its duties, which makes no ask more; or, where no frame stands, an event
+-- that the environment does not decide alone, or the end of the loop
 abbrev pub comes_over : List Frame → Environment → Bool
 comes_over (f ∷ fs) e = is_hub_duty f.duty && asks_no_more f
 comes_over [] e = is_of_hub (event_turn (local_choice e) e.phase)
 
--- the next event is the hub's: something is owed to it, or it makes the next event whatever an addon asks
+-- the next event is the hub's: something is pending at it, or it makes the next event whatever an addon asks
 abbrev pub comes_to_hub : Run → Bool
-comes_to_hub run = owes_hub run || comes_over run.core.env.frames run.core.env
+comes_to_hub run = pending_at_hub run || comes_over run.core.env.frames run.core.env
 
 -- WHAT CAME
 -- from a hub on each of these entries is its next where it stands
@@ -64,8 +64,8 @@ pub record AddsEntriesOf (who : Actor) (count : ℕ) (old new : HubSeen) : Type 
   pub hub : new.hub ≡ hub_along old.hub entries
   pub history : new.history ≡ old.history ++ entries
 
--- no answer of the hub is awaited, and no end is owed
-pub record IsPaid (run : Run) : Type 0 where
+-- no answer of the hub is awaited, and no end is pending
+pub record NothingPending (run : Run) : Type 0 where
   pub answered : run.core.awaited ≡ None
   pub ended : run.ending ≡ None
 

@@ -1,4 +1,4 @@
--- A run that is recorded with what it owes, over the front of the history that the environment has seen, while others went on behind it.
+-- A run that is recorded with what is pending, over the front of the history that the environment has seen, while others went on behind it.
 use Rattle.std.specs.Prelude.{◌≡◌, ◌&&◌, true, false, List, ◌++◌, length, Option, None, IfSome, IsTrue}
 use Rattle.std.specs.List.{All}
 use Rattle.napi_types.specs.declared.call.Ask.{Ask}
@@ -26,7 +26,7 @@ use Rattle.env_loop.specs.declared.run.FrameEnd.TheVariants as end
 use Rattle.env_loop.specs.Recording.{AddonStates, machine_of, IsOf, IsRecorded, IsBehindOwn}
 use Rattle.env_loop.specs.RecordedRuns.{Run, FitsHub}
 
--- WHAT IS OWED
+-- WHAT IS PENDING
 -- the innermost frame asks this, by the plans and from these registers
 abbrev pub Asks : Setting → Registers → List Frame → Ask → Type 0
 Asks s rss fs a = a ≡ frames_ask s.plans rss fs a
@@ -41,18 +41,19 @@ MayEndSo s rss m end.Leaves = (v : Option HandleId) × Asks s rss m.env.frames (
 MayEndSo s rss m (end.Cut w) =
     (a : Ask) × Asks s rss m.env.frames a × (may_cut m a w ≡ true) × (is_hub_duty (duty_of m.env.frames) ≡ false → StoppedAtHub a w)
 
--- the call that is awaited is what the innermost frame asks, and it may end as is owed
-pub record IsOwed (s : Setting) (rss : Registers) (m : Machine) (run : Run) : Type 0 where
+-- the call that is awaited is what the innermost frame asks, and the frame may end as is pending
+pub record PendingIsAsked (s : Setting) (rss : Registers) (m : Machine) (run : Run) : Type 0 where
   pub call : IfSome run.core.awaited (λ c. Asks s rss m.env.frames (ask.Do c.call))
   pub end : IfSome run.ending (MayEndSo s rss m)
 
 -- THE RUN OVER A HISTORY
--- the run is recorded over this history, which has led to this hub, with what it owes
+-- the run is recorded over this history, which has led to this hub, with what is pending
 pub record IsRecordedRun (s : Setting) (run : Run) (history : List Entry) (all : AddonStates) (firsts : List (List DueInfo)) : Type 0 where
   pub recorded : IsRecorded s run.core (hub_along (opening_of s).hub history) history all firsts
-  pub owed : IsOwed s all.registers (machine_of s.limits run.core (hub_along (opening_of s).hub history) history) run
+  pub owed : PendingIsAsked s all.registers (machine_of s.limits run.core (hub_along (opening_of s).hub history) history) run
 
--- it is recorded over a front of the history, and behind it are others' entries alone. The environment made the last entry of that front, unless an end is owed
+-- it is recorded over a front of the history, and behind it are others' entries alone. The environment made the last entry of that front, unless an end is
+-- pending
 pub record IsFollowed (s : Setting) (run : Run) (history : List Entry) (all : AddonStates) (firsts : List (List DueInfo)) : Type 0 where
   pub front : List Entry
   pub rest : List Entry
@@ -66,7 +67,7 @@ pub record IsFollowed (s : Setting) (run : Run) (history : List Entry) (all : Ad
 abbrev pub taken_in : List Entry → Run → Run
 taken_in history run = record run { core = record run.core { position = length history } }
 
--- where the whole history replays at the hub, the run is recorded over all of it, with what it owes; only the position moves
+-- where the whole history replays at the hub, the run is recorded over all of it, with what is pending; only the position moves
 abbrev pub OthersAreTakenIn : Type 0
 OthersAreTakenIn = (s : Setting) (run : Run) (history : List Entry) (all : AddonStates) (firsts : List (List DueInfo))
     → HubReplays s.limits.history (opening_of s).hub 0 history
@@ -84,7 +85,8 @@ FittingRunsStand = (run : Run) (before after : HubSeen) (x : Entry) → FitsHub 
     → FitsHub run after
 
 -- TURNS
--- whatever script of these addons it is a run of, and whatever they saw first, the run that is followed goes on from one run, history and these addons to another
+-- whatever script of these addons it is a run of, and whatever they saw first, the run that is followed goes on from one run, history and these addons to
+-- another
 abbrev pub RunGoesOn : List Plan → Run → List Entry → AddonStates → Run → List Entry → AddonStates → Type 0
 RunGoesOn plans old before all new after now =
     (s : Setting) (firsts : List (List DueInfo)) → IsOf s plans old.core → IsFollowed s old before all firsts → IsFollowed s new after now firsts

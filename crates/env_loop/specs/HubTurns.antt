@@ -21,7 +21,7 @@ use Rattle.env_loop.specs.declared.run.HubTurn.{HubTurn}
 use Rattle.env_loop.specs.declared.run.HubTurn.TheVariants as turn
 use Rattle.env_loop.specs.ActorRuns.{AddsEntryOf}
 use Rattle.env_loop.specs.Recording.{AddonStates, HasSeen}
-use Rattle.env_loop.specs.RecordedRuns.{Run, owes_hub, FitsHub}
+use Rattle.env_loop.specs.RecordedRuns.{Run, pending_at_hub, FitsHub}
 use Rattle.env_loop.specs.FollowedRuns.{GoesOnAt}
 use Rattle.env_loop.specs.Turns.{Awaits, OnlyInnermostChanges, begins_at_hub, hub_event}
 
@@ -35,13 +35,13 @@ pub record KeepsJournal (old new : Run) : Type 0 where
 abbrev pub SpentAtFinals : Hub → Hub → Type 0
 SpentAtFinals old new = new.stage ≡ Final → (old.stage ≡ Final) ⊎ (is_spent old ≡ true)
 
--- a turn that made one entry of the history: what was owed is paid, only the innermost frame's addon may have other registers, an addon has seen a duty more where
--- its frame begins, and a run that was followed goes on
+-- a turn that made one entry of the history: what was pending is done, only the innermost frame's addon may have other registers, an addon has seen a duty more
+-- where its frame begins, and a run that was followed goes on
 pub record IsHubTurn (n : Numbers) (plans : List Plan) (old : Run) (before : HubSeen) (all : AddonStates) (new : Run) (after : HubSeen) (now : AddonStates) : Type 0 where
   pub made : AddsEntryOf actor.Env before after
   pub answered : new.core.awaited ≡ None
   pub ended : new.ending ≡ None
-  pub someone : (owes_hub old ≡ true) ⊎ (hub_event old.core.env before.hub ≢ None)
+  pub someone : (pending_at_hub old ≡ true) ⊎ (hub_event old.core.env before.hub ≢ None)
   pub kept : KeepsJournal old new
   pub fits : FitsHub new after
   pub others : drop old.core.env.addons now.registers ≡ drop old.core.env.addons all.registers
@@ -68,7 +68,7 @@ pub record IsCutTurn (n : Numbers) (plans : List Plan) (w : Why) (old : Run) (be
 
 -- a turn at which there is nothing to do
 pub record IsIdleTurn (old : Run) (before : HubSeen) (all : AddonStates) (new : Run) (after : HubSeen) (now : AddonStates) : Type 0 where
-  pub unowed : owes_hub old ≡ false
+  pub unowed : pending_at_hub old ≡ false
   pub none : hub_event old.core.env before.hub ≡ None
   pub run : new ≡ old
   pub hub : after ≡ before

@@ -1,4 +1,4 @@
--- A running environment: its core, the duty whose frame stands, and the end of a frame that it owes; and how it fits with the hub beside it.
+-- A running environment: its core, the duty whose frame stands, and the end of a frame that is pending; and how it fits with the hub beside it.
 use Rattle.std.specs.Prelude.{◌≡◌, ◌≢◌, ◌<◌, ◌≤◌, Bool, true, cond, ◌&&◌, ◌||◌, List, [], ◌∷◌, ◌++◌, length, Option, Some, None, is_some, option_map, IfSome}
 use Rattle.std.specs.List.{All}
 use Rattle.std.specs.Option.{option_to_list}
@@ -25,7 +25,7 @@ use Rattle.env_loop.specs.declared.run.FrameEnd.{FrameEnd}
 use Rattle.env_loop.specs.declared.run.FrameEnd.TheVariants as end
 
 -- THE RUN
--- the environment with its journal; what the duty told whose frame stands, where one does; and how the innermost frame is to end, where that is owed
+-- the environment with its journal; what the duty told whose frame stands, where one does; and how the innermost frame is to end, where that is pending
 pub record Run : Type 0 where
   pub core : Core
   pub begun : Option DueInfo
@@ -45,13 +45,13 @@ cut_at end.Leaves = None
 cut_at (end.Cut w) = Some w
 
 -- the hub is to answer a call, or to make the end of the frame of one of its duties
-abbrev pub owes_hub : Run → Bool
-owes_hub run = is_some run.core.awaited || (is_some run.ending && is_hub_duty (duty_of run.core.env.frames))
+abbrev pub pending_at_hub : Run → Bool
+pending_at_hub run = is_some run.core.awaited || (is_some run.ending && is_hub_duty (duty_of run.core.env.frames))
 
 -- WHAT A RUN KEEPS
 -- what the frames of a run keep: each runs an addon of the script and makes no more asks than it may, a frame that a duty began is the outermost one, and no
--- call begins the frame of a ticket; each function and each ticket belongs to an addon of the script, each hook is registered up to `finals`, and no frame stands
--- once the environment is gone
+-- call begins the frame of a ticket; each function and each ticket belongs to an addon of the script, each hook is registered up to `finals`, and no frame
+-- stands once the environment is gone
 pub record IsSoundEnvironment (e : Environment) : Type 0 where
   pub opened : e.opened ≡ true
   pub owned : IsOwned e.addons e
@@ -72,18 +72,18 @@ pub record IsAwaited (e : Environment) (c : SharedCall) : Type 0 where
   pub shared : is_shared c.call ≡ true
   pub handed : c ≡ shared_call_of e c.call
 
--- an end is owed of a frame that stands. One that leaves is the frame of a duty of the hub, and one is cut for its asks after the last of them
-pub record IsOwedEnd (e : Environment) (how : FrameEnd) : Type 0 where
+-- an end is pending, of a frame that stands. One that leaves is the frame of a duty of the hub, and one is cut for its asks after the last of them
+pub record IsPendingEnd (e : Environment) (how : FrameEnd) : Type 0 where
   pub stands : e.frames ≢ []
   pub leaves : how ≡ end.Leaves → is_hub_duty (duty_of e.frames) ≡ true
   pub asks : how ≡ end.Cut why.Asks → asks_made e.frames ≡ most_asks
 
--- what a run keeps: besides, the duty of its frames is the one that it holds, and it owes a call or an end, or neither
+-- what a run keeps: besides, the duty of its frames is the one that it holds, and a call is pending, or an end, or neither
 pub record IsRunning (core : Core) (begun : Option DueInfo) (ending : Option FrameEnd) : Type 0 where
   pub sound : IsSoundEnvironment core.env
   pub held : Holds core.env.frames begun
   pub awaited : IfSome core.awaited (IsAwaited core.env)
-  pub ends : IfSome ending (IsOwedEnd core.env)
+  pub ends : IfSome ending (IsPendingEnd core.env)
   pub one : core.awaited ≢ None → ending ≡ None
 
 -- THE HUB BESIDE IT
@@ -92,8 +92,8 @@ abbrev pub hub_begun : Option DueInfo → Option DueInfo
 hub_begun None = None
 hub_begun (Some d) = cond (is_hub_duty (Some d.duty)) (Some d) None
 
--- a run and a hub that fit together: how far they are, the duty whose frame stands, that works and functions are of the script's addons, and that the run has seen
--- no more than there is
+-- a run and a hub that fit together: how far they are, the duty whose frame stands, that works and functions are of the script's addons, and that the run has
+-- seen no more than there is
 pub record FitsHub (run : Run) (seen : HubSeen) : Type 0 where
   pub stage : IsStageOf run.core.env.phase seen.hub.stage
   pub standing : seen.hub.standing ≡ hub_begun run.begun

@@ -35,7 +35,7 @@ use Rattle.env_loop.specs.declared.turn.LocalTurn.TheVariants as turn
 use Rattle.env_loop.specs.declared.turn.NextEvent.{NextEvent}
 use Rattle.env_loop.specs.declared.turn.NextEvent.TheVariants as next
 use Rattle.env_loop.specs.Recording.{AddonStates, HasSeen}
-use Rattle.env_loop.specs.RecordedRuns.{Run, OneMore, cut_at, owes_hub, hub_begun, FitsHub}
+use Rattle.env_loop.specs.RecordedRuns.{Run, OneMore, cut_at, pending_at_hub, hub_begun, FitsHub}
 use Rattle.env_loop.specs.FollowedRuns.{RunGoesOn}
 
 -- THE NEXT EVENT
@@ -63,11 +63,11 @@ turn_at [] e = event_turn (local_choice e) e.phase
 abbrev pub turn_of : Environment → LocalTurn
 turn_of e = turn_at e.frames e
 
--- a turn after which this run owes something to the hub made no entry: the hub has to make its turn
+-- a turn after which this run has something pending at the hub made no entry: the hub has to make its turn
 abbrev pub turn_after : Run → Environment → LocalTurn
-turn_after run e = cond (owes_hub run) turn.NeedsHub (turn_of e)
+turn_after run e = cond (pending_at_hub run) turn.NeedsHub (turn_of e)
 
--- the hub has to make its turn: something is owed to it, or the next event is its own
+-- the hub has to make its turn: something is pending at it, or the next event is its own
 abbrev pub needs_hub : Run → Type 0
 needs_hub run = turn_after run run.core.env ≡ turn.NeedsHub
 
@@ -85,7 +85,7 @@ abbrev pub next_ticket_info : Environment → Option DueInfo
 next_ticket_info e = ticket_info_at e e.frames
 
 -- A TURN AT THE HUB
--- the event that is next at the hub, where nothing is owed: the end of the loop, once exit was asked, or else the one that the hub chooses
+-- the event that is next at the hub, where nothing is pending: the end of the loop, once exit was asked, or else the one that the hub chooses
 abbrev pub hub_event : Environment → Hub → Option Event
 hub_event e h = option_or (local_choice e) (hub_choice h (waiting_hooks e))
 
@@ -96,7 +96,7 @@ hub_duty_info_of _ = None
 
 -- what the duty tells whose frame begins in the hub's turn
 abbrev pub begins_at_hub : Run → Hub → Option DueInfo
-begins_at_hub run h = cond (owes_hub run) None (hub_duty_info_of (hub_event run.core.env h))
+begins_at_hub run h = cond (pending_at_hub run) None (hub_duty_info_of (hub_event run.core.env h))
 
 -- a fact of why a call was cut, where the turn is one that cut it
 abbrev pub IfCut : HubTurn → (Why → Type 0) → Type 0
@@ -140,7 +140,7 @@ OnlyInnermostChanges [] (g ∷ gs) all now = OnlyGiven g.duty g.addon all now
 OnlyInnermostChanges (f ∷ fs) (g ∷ gs) all now = OthersStay all now g.addon
 
 -- WHAT A TURN KEEPS
--- a turn that leaves one entry in the journal keeps the addons and the journal's limit, makes no event of the hub, and owes nothing afterwards
+-- a turn that leaves one entry in the journal keeps the addons and the journal's limit, makes no event of the hub, and has nothing pending afterwards
 pub record MakesEntry (old new : Run) : Type 0 where
   pub addons : new.core.env.addons ≡ old.core.env.addons
   pub fits : (h : HubSeen) → FitsHub old h → FitsHub new h
@@ -159,17 +159,17 @@ pub record IsTurn (plans : List Plan) (old : Run) (all : AddonStates) (new : Run
   pub kept : MakesEntry old new
   pub goes : (history : List Entry) → RunGoesOn plans old history all new history now
 
--- all is as it was but for what is owed
-abbrev pub OwesAlone : Run → Run → Type 0
-OwesAlone old new = new ≡ record old { core = record old.core { awaited = new.core.awaited }; ending = new.ending }
+-- all is as it was but for what is pending
+abbrev pub OnlyPendingChanged : Run → Run → Type 0
+OnlyPendingChanged old new = new ≡ record old { core = record old.core { awaited = new.core.awaited }; ending = new.ending }
 
--- a turn after which something is owed to the hub, where no end was owed before: all but that is as before, and a run that was followed goes on over the same
--- history
-pub record OwesMore (plans : List Plan) (old : Run) (all : AddonStates) (new : Run) (now : AddonStates) : Type 0 where
+-- a turn after which something is pending at the hub, where no end was pending before: all but that is as before, and a run that was followed goes on over the
+-- same history
+pub record BecamePending (plans : List Plan) (old : Run) (all : AddonStates) (new : Run) (now : AddonStates) : Type 0 where
   pub core : new.core ≡ record old.core { awaited = new.core.awaited }
   pub begun : new.begun ≡ old.begun
   pub free : old.ending ≡ None
-  pub owes : owes_hub new ≡ true
+  pub owes : pending_at_hub new ≡ true
   pub same : now ≡ all
   pub goes : (history : List Entry) → RunGoesOn plans old history all new history now
 
@@ -178,10 +178,10 @@ pub record IsSame (old : Run) (all : AddonStates) (new : Run) (now : AddonStates
   pub run : new ≡ old
   pub addons : now ≡ all
 
--- a turn by what it comes to: it made its entry, it owes more than before, or it changed nothing
+-- a turn by what it comes to: it made its entry, something became pending, or it changed nothing
 abbrev pub MatchTurn : LocalTurn → List Plan → Run → AddonStates → Run → AddonStates → Type 0
 MatchTurn turn.Made plans old all new now = IsTurn plans old all new now
-MatchTurn turn.NeedsHub plans old all new now = OwesMore plans old all new now ⊎ IsSame old all new now
+MatchTurn turn.NeedsHub plans old all new now = BecamePending plans old all new now ⊎ IsSame old all new now
 MatchTurn turn.Gone plans old all new now = IsSame old all new now
 
 -- the innermost frame ended so here, no duty of the hub with it, and the addon of its caller was told
@@ -195,7 +195,7 @@ pub record EndsHere (plans : List Plan) (all : Registers) (old : Run) (value : O
 abbrev pub EndsSo : FrameEnd → Core → Core → Type 0
 EndsSo how old new = new ≡ after_change (end_change None (cut_at how) old.env) old
 
--- it ends here, or where a duty of the hub began it, its end is owed
+-- it ends here, or where a duty of the hub began it, its end is pending
 abbrev pub EndsOrOwes : Bool → List Plan → Registers → Run → Option HandleId → FrameEnd → Run → Registers → Type 0
 EndsOrOwes false plans all old value how new now = EndsHere plans all old value how new now
 EndsOrOwes true plans all old value how new now = (new ≡ record old { ending = Some how }) × (now ≡ all)

@@ -11,10 +11,10 @@ ghost use Rattle.env_core.specs.Standing.{machine_frame};
 ghost use Rattle.shared_hub.specs.HubStates.{HubSeen, hub_room};
 ghost use Rattle.shared_hub.specs.SharedTries.{given_by, MayFindNoMemory};
 ghost use Rattle.env_loop.specs.Recording.{AddonStates, states_of};
-ghost use Rattle.env_loop.specs.RecordedRuns.{owes_hub, FitsHub};
+ghost use Rattle.env_loop.specs.RecordedRuns.{pending_at_hub, FitsHub};
 ghost use Rattle.env_loop.specs.FollowedRuns.{RunGoesOn, GoesOnAt};
 ghost use Rattle.env_loop.specs.Turns.{event_turn, needs_hub, hub_event, IfCut, Awaits};
-ghost use Rattle.env_loop.specs.Bursts.{asks_no_more, silent_end, is_of_hub as is_for_hub, comes_to_hub, made_by, AddsEntriesOf, IsBurst, IsPaid, TurnsOn, StopsAtAsks};
+ghost use Rattle.env_loop.specs.Bursts.{asks_no_more, silent_end, is_of_hub as is_for_hub, comes_to_hub, made_by, AddsEntriesOf, IsBurst, NothingPending, TurnsOn, StopsAtAsks};
 
 use crate::run::{EnvRun, FrameEnd, HubTurn};
 use crate::turn::{NextEvent, is_of_hub, next_event};
@@ -34,12 +34,12 @@ pub struct Burst {
 }
 
 impl EnvRun {
-    /// Whether the next event is the hub's, whatever an addon may ask. It is where something is owed to the hub; where the innermost frame is that of
+    /// Whether the next event is the hub's, whatever an addon may ask. It is where something is pending at the hub; where the innermost frame is that of
     /// one of the hub's duties and makes no ask more; and where no frame stands and the environment decides no event alone but the loop's end.
     pub fn comes_to_hub(&self) -> bool
         ensures { result ≡ comes_to_hub self.now }
     {
-        if self.owes_hub() {
+        if self.pending_at_hub() {
             return true;
         }
         match self.core.frame() {
@@ -79,7 +79,7 @@ impl EnvRun {
             (record { run = self.old; hub = hub.old; addons = before }) (record { run = self.new; hub = hub.new; addons = after }) }
         ensures stops { result.made < most → (comes_to_hub self.new ≡ false) ⊎ (result.last ≢ HubTurn.Made) }
         ensures all { result.made ≡ most → result.last ≡ HubTurn.Made }
-        ensures paid { result.last ≡ HubTurn.Made → (1 ≤ result.made) × IsPaid self.new }
+        ensures paid { result.last ≡ HubTurn.Made → (1 ≤ result.made) × NothingPending self.new }
 
         // Only the first turn may cut a call, as full exactly where the history has no room for it, and for want of memory only where it has and where the
         // call may want some. Its frame is then to end so.
@@ -89,9 +89,9 @@ impl EnvRun {
         ensures memory { result.last ≡ HubTurn.Cut Why.Memory
             → Awaits self.old.core.awaited (λ c. MayFindNoMemory (hub_room N.numbers hub.old) hub.old.hub actor.Env (given_by c) c.call) }
 
-        // There is nothing to do only where nothing is owed, the next event is the hub's, and no event is next there.
+        // There is nothing to do only where nothing is pending, the next event is the hub's, and no event is next there.
         ensures nothing { result.last ≡ HubTurn.Nothing
-            → (owes_hub self.new ≡ false) × (comes_to_hub self.new ≡ true) × (hub_event self.new.core.env hub.new.hub ≡ None) }
+            → (pending_at_hub self.new ≡ false) × (comes_to_hub self.new ≡ true) × (hub_event self.new.core.env hub.new.hub ≡ None) }
 
         // A run that was followed goes on, over the history as it is then. It fits with the hub, and the journal, the addons and the limit stay. The
         // addons that are no addons of the script keep their registers, and all keep them where no entry was made.
@@ -127,7 +127,7 @@ impl EnvRun {
         addons: &mut Vec<Box<dyn Addon>>,
         most: u32,
     ) -> Burst
-        requires paid { IsPaid self.old }
+        requires paid { NothingPending self.old }
         requires fits { FitsHub self.old hub.old }
         requires enough { self.old.core.env.addons ≤ length addons.old.items }
         ensures plans { TellSamePlans (λ b. plan b) addons.old.items addons.new.items }
@@ -141,10 +141,10 @@ impl EnvRun {
         ensures few { result.made ≤ most }
         ensures stops { result.made < most → (comes_to_hub self.new ≡ false) ⊎ (result.last ≢ HubTurn.Made) }
         ensures all { result.made ≡ most → result.last ≡ HubTurn.Made }
-        ensures paid { result.last ≡ HubTurn.Made → IsPaid self.new }
+        ensures paid { result.last ≡ HubTurn.Made → NothingPending self.new }
         ensures uncut { IfCut result.last (λ _. ⊥) }
         ensures nothing { result.last ≡ HubTurn.Nothing
-            → (owes_hub self.new ≡ false) × (comes_to_hub self.new ≡ true) × (hub_event self.new.core.env hub.new.hub ≡ None) }
+            → (pending_at_hub self.new ≡ false) × (comes_to_hub self.new ≡ true) × (hub_event self.new.core.env hub.new.hub ≡ None) }
     {
         for made in 0..most {
             if !self.comes_to_hub() {
@@ -164,33 +164,33 @@ impl EnvRun {
         }
     }
 
-    /// A turn at the hub, where the next event is the hub's. Where a frame stands its end is owed first.
+    /// A turn at the hub, where the next event is the hub's. Where a frame stands its end is pending first.
     fn silent_turn<J: Job, N: Naming>(
         &mut self,
         hub: &mut HubState<J, N>,
         addons: &mut Vec<Box<dyn Addon>>,
     ) -> HubTurn
         requires comes { comes_to_hub self.old ≡ true }
-        requires paid { IsPaid self.old }
+        requires paid { NothingPending self.old }
         requires fits { FitsHub self.old hub.old }
         requires enough { self.old.core.env.addons ≤ length addons.old.items }
         ensures plans { TellSamePlans (λ b. plan b) addons.old.items addons.new.items }
         ensures burst { let before = states_of (λ b. regs b) (λ b. seen b) addons.old.items in
             let after = states_of (λ b. regs b) (λ b. seen b) addons.new.items in
             IsBurst N.numbers (map (λ b. plan b) addons.old.items) (made_by result) self.old hub.old before self.new hub.new after }
-        ensures paid { result ≡ HubTurn.Made → IsPaid self.new }
+        ensures paid { result ≡ HubTurn.Made → NothingPending self.new }
         ensures uncut { IfCut result (λ _. ⊥) }
         ensures nothing { result ≡ HubTurn.Nothing
-            → (owes_hub self.new ≡ false) × (comes_to_hub self.new ≡ true) × (hub_event self.new.core.env hub.new.hub ≡ None) }
+            → (pending_at_hub self.new ≡ false) × (comes_to_hub self.new ≡ true) × (hub_event self.new.core.env hub.new.hub ≡ None) }
     {
         self.owe_end();
         self.hub_turn(hub, addons)
     }
 
-    /// The end of the innermost frame comes to be owed to the hub, where the next event is the hub's and a frame stands.
+    /// The end of the innermost frame comes to be pending at the hub, where the next event is the hub's and a frame stands.
     fn owe_end(&mut self)
         requires comes { comes_to_hub self.old ≡ true }
-        requires paid { IsPaid self.old }
+        requires paid { NothingPending self.old }
         ensures needs { needs_hub self.new }
         ensures core { self.new.core ≡ self.old.core }
         ensures begun { self.new.begun ≡ self.old.begun }

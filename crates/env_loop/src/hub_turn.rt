@@ -1,4 +1,4 @@
-//! One turn of the environment at the hub: what is owed to it, or its next event.
+//! One turn of the environment at the hub: what is pending at it, or its next event.
 ghost use Rattle.std.specs.Prelude.{◌≡◌, ◌≢◌, ◌↔◌, ◌<◌, ◌≤◌, List, [], length, map, Some, None, true, false};
 ghost use Rattle.napi_types.specs.declared.entry.Cause.TheVariants as cause;
 ghost use Rattle.napi_types.specs.declared.entry.LoopEnd.TheVariants as loop_end;
@@ -9,7 +9,7 @@ ghost use Rattle.napi_types.specs.runs.Loop.{EndsLoop};
 ghost use Rattle.addon_trait.specs.Addons.{TellSamePlans};
 ghost use Rattle.shared_hub.specs.KeptHubs.{IsLedHub};
 ghost use Rattle.env_loop.specs.Recording.{AddonStates, states_of};
-ghost use Rattle.env_loop.specs.RecordedRuns.{owes_hub, FitsHub};
+ghost use Rattle.env_loop.specs.RecordedRuns.{pending_at_hub, FitsHub};
 ghost use Rattle.env_loop.specs.HubTurns.{MatchHubTurn, IsHubTurn, DeliversAt};
 ghost use Rattle.env_loop.specs.Turns.{needs_hub};
 
@@ -119,7 +119,7 @@ impl EnvRun {
         hub: &mut HubState<J, N>,
         addons: &mut Vec<Box<dyn Addon>>,
     ) -> HubTurn
-        requires unowed { owes_hub self.old ≡ false }
+        requires unowed { pending_at_hub self.old ≡ false }
         requires needs { needs_hub self.old }
         requires live { self.old.core.env.phase ≡ Phase.Live }
         requires led { IsLedHub N.numbers hub.old }
@@ -154,7 +154,7 @@ impl EnvRun {
         hub: &mut HubState<J, N>,
         addons: &mut Vec<Box<dyn Addon>>,
     ) -> HubTurn
-        requires unowed { owes_hub self.old ≡ false }
+        requires unowed { pending_at_hub self.old ≡ false }
         requires needs { needs_hub self.old }
         requires later { (self.old.core.env.phase ≢ Phase.Init) × (self.old.core.env.phase ≢ Phase.Live) }
         requires led { IsLedHub N.numbers hub.old }
@@ -183,7 +183,7 @@ impl EnvRun {
         addons: &mut Vec<Box<dyn Addon>>,
         due: Due,
     )
-        requires unowed { owes_hub self.old ≡ false }
+        requires unowed { pending_at_hub self.old ≡ false }
         requires alone { self.old.core.env.frames ≡ [] }
         requires hub { is_hub_duty (Some due.duty) ≡ true }
         requires uncalled { due.cause ≢ cause.Call }

@@ -10,10 +10,10 @@ ghost use Rattle.shared_hub.specs.HubStates.{HubSeen, hub_room};
 ghost use Rattle.shared_hub.specs.SharedTries.{given_by, MayFindNoMemory};
 ghost use Rattle.env_loop.specs.ActorRuns.{AddsEntryOf};
 ghost use Rattle.env_loop.specs.Recording.{HasSeen, states_of};
-ghost use Rattle.env_loop.specs.RecordedRuns.{IsOpened, opened_run, owes_hub, FitsHub, OneMore};
+ghost use Rattle.env_loop.specs.RecordedRuns.{IsOpened, opened_run, pending_at_hub, FitsHub, OneMore};
 ghost use Rattle.env_loop.specs.FollowedRuns.{RunGoesOn, GoesOnAt};
 ghost use Rattle.env_loop.specs.HubTurns.{SpentAtFinals};
-ghost use Rattle.env_loop.specs.Turns.{turn_after, needs_hub, next_ticket_info, begins_at_hub, hub_event, IfCut, Awaits, OnlyInnermostChanges, OwesAlone, EndsSo};
+ghost use Rattle.env_loop.specs.Turns.{turn_after, needs_hub, next_ticket_info, begins_at_hub, hub_event, IfCut, Awaits, OnlyInnermostChanges, OnlyPendingChanged, EndsSo};
 
 use crate::turn::LocalTurn;
 use addon_trait::Addon;
@@ -79,7 +79,7 @@ impl EnvRun {
     /// more in the journal. `NeedsHub` is answered where the hub has to answer a call, to make the end of the frame of one of its duties or to make
     /// the next event, and again until it has made its turn. `Gone` is answered once the environment is gone.
     ///
-    /// While something is owed to the hub nothing changes. No addon is asked then either, so each is asked once: a test shows that, and no clause.
+    /// While something is pending at the hub nothing changes. No addon is asked then either, so each is asked once: a test shows that, and no clause.
     /// No turn reads what others have done since the environment's last turn at the hub.
     ///
     /// In the loop, until exit is asked, and after `finals` the lowest ticket that is due begins its frame, where no frame stands; between the end
@@ -91,25 +91,24 @@ impl EnvRun {
         requires { self.old.core.env.addons ≤ length addons.old.items }
         ensures plans { TellSamePlans (λ b. plan b) addons.old.items addons.new.items }
 
-        // What the turn comes to is told by the frames and the next event, and by what is owed after it.
+        // What the turn comes to is told by the frames and the next event, and by what is pending after it.
         ensures turn { result ≡ turn_after self.new self.old.core.env }
 
-        // A turn that was made left exactly one entry in the journal, which had room for it, and no end is owed after it.
+        // A turn that was made left exactly one entry in the journal, which had room for it, and no end is pending after it.
         ensures made { result ≡ LocalTurn.Made → OneMore self.old.core.journal self.new.core.journal }
         ensures room { result ≡ LocalTurn.Made → length self.old.core.journal < self.old.core.limit }
         ensures paid { result ≡ LocalTurn.Made → self.new.ending ≡ None }
 
-        // Another turn changed nothing, but that something may be owed that was not. Where something was owed it changed nothing at all, and nothing
-        // comes to be owed where the end of a frame was.
-        ensures stays { result ≢ LocalTurn.Made → owes_hub self.new ≡ false → self.new ≡ self.old }
-        ensures owes { result ≢ LocalTurn.Made → OwesAlone self.old self.new }
-        ensures once { IsTrue (owes_hub self.old) → self.new ≡ self.old }
-        ensures free { owes_hub self.old ≡ false → owes_hub self.new ≡ true → self.old.ending ≡ None }
+        // Every other turn changes at most what is pending. It changes nothing where something was pending before. A pending end never becomes another one.
+        ensures stays { result ≢ LocalTurn.Made → pending_at_hub self.new ≡ false → self.new ≡ self.old }
+        ensures owes { result ≢ LocalTurn.Made → OnlyPendingChanged self.old self.new }
+        ensures once { IsTrue (pending_at_hub self.old) → self.new ≡ self.old }
+        ensures free { pending_at_hub self.old ≡ false → pending_at_hub self.new ≡ true → self.old.ending ≡ None }
         ensures same { result ≢ LocalTurn.Made → map (λ b. regs b) addons.new.items ≡ map (λ b. regs b) addons.old.items }
         ensures unseen { result ≢ LocalTurn.Made → map (λ b. seen b) addons.new.items ≡ map (λ b. seen b) addons.old.items }
 
-        // Where the end of a frame was owed and the hub is not to make it, the frame ended so.
-        ensures ends { IfSome self.old.ending (λ how. owes_hub self.old ≡ false → EndsSo how self.old.core self.new.core) }
+        // Where the end of a frame was pending and the hub is not to make it, the frame ended so.
+        ensures ends { IfSome self.old.ending (λ how. pending_at_hub self.old ≡ false → EndsSo how self.old.core self.new.core) }
 
         // A run that was followed goes on over the same history. It fits with each hub with which it fitted, and the addons that are no addons
         // of the script keep their registers.
@@ -158,7 +157,7 @@ impl EnvRun {
         ensures paid { result ≡ HubTurn.Made → (self.new.core.awaited ≡ None) × (self.new.ending ≡ None) }
 
         // Each other turn left the hub as it was. A call is cut as full exactly where the history has no room for it, and for want of memory only
-        // where it has and where the call may want some; its frame is then to end so. Nothing is done exactly where nothing is owed and
+        // where it has and where the call may want some; its frame is then to end so. Nothing is done exactly where nothing is pending and
         // no event is next, and then nothing changes.
         ensures hub { result ≢ HubTurn.Made → hub.new ≡ hub.old }
         ensures full { (result ≡ HubTurn.Cut Why.Full) ↔ Awaits self.old.core.awaited (λ c. IsTrue (is_full (hub_room N.numbers hub.old) c.call)) }
@@ -166,7 +165,7 @@ impl EnvRun {
             → Awaits self.old.core.awaited (λ c. MayFindNoMemory (hub_room N.numbers hub.old) hub.old.hub actor.Env (given_by c) c.call) }
         ensures cut { IfCut result (λ why. (why ≢ Why.Asks)
             × (self.new ≡ record self.old { core = after_no_answer (length hub.old.history) self.old.core; ending = Some (FrameEnd.Cut why) })) }
-        ensures nothing { (result ≡ HubTurn.Nothing) ↔ ((owes_hub self.old ≡ false) × (hub_event self.old.core.env hub.old.hub ≡ None)) }
+        ensures nothing { (result ≡ HubTurn.Nothing) ↔ ((pending_at_hub self.old ≡ false) × (hub_event self.old.core.env hub.old.hub ≡ None)) }
         ensures stays { result ≡ HubTurn.Nothing → self.new ≡ self.old }
         ensures same { result ≢ HubTurn.Made → map (λ b. regs b) addons.new.items ≡ map (λ b. regs b) addons.old.items }
 

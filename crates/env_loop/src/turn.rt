@@ -10,7 +10,7 @@ ghost use Rattle.addon_trait.specs.Addons.{TellSamePlans};
 ghost use Rattle.env_core.specs.Core.{after_change};
 ghost use Rattle.env_core.specs.Standing.{machine_frame};
 ghost use Rattle.env_loop.specs.Recording.{why_stopped, states_of};
-ghost use Rattle.env_loop.specs.RecordedRuns.{IsSoundEnvironment, cut_at, hub_begun, owes_hub, OneMore, FitsHub};
+ghost use Rattle.env_loop.specs.RecordedRuns.{IsSoundEnvironment, cut_at, hub_begun, pending_at_hub, OneMore, FitsHub};
 ghost use Rattle.env_loop.specs.Turns.{event_turn as turn_at_event, turn_after, next_ticket_info, IsNextEvent, IsAskOf, ReplyIsNoted, IsTurn, MatchTurn, EndsOrOwes, EndsSo};
 
 use crate::run::{EnvRun, FrameEnd};
@@ -122,10 +122,10 @@ impl EnvRun {
             let after = states_of (λ b. regs b) (λ b. seen b) addons.new.items in
             MatchTurn result (map (λ b. plan b) addons.old.items) self.old before self.new after }
         ensures unbegun { result ≢ LocalTurn.Made → next_ticket_info self.old.core.env ≡ None }
-        ensures ends { IfSome self.old.ending (λ how. owes_hub self.old ≡ false → EndsSo how self.old.core self.new.core) }
-        ensures once { owes_hub self.old ≡ true → (self.new ≡ self.old) × (map (λ b. regs b) addons.new.items ≡ map (λ b. regs b) addons.old.items) }
+        ensures ends { IfSome self.old.ending (λ how. pending_at_hub self.old ≡ false → EndsSo how self.old.core self.new.core) }
+        ensures once { pending_at_hub self.old ≡ true → (self.new ≡ self.old) × (map (λ b. regs b) addons.new.items ≡ map (λ b. regs b) addons.old.items) }
     {
-        if self.owes_hub() {
+        if self.pending_at_hub() {
             return LocalTurn::NeedsHub;
         }
         match self.core.frame() {
@@ -135,8 +135,8 @@ impl EnvRun {
     }
 
     /// Whether the hub is to answer a call, or to make the end of the frame of one of its duties.
-    pub(crate) fn owes_hub(&self) -> bool
-        ensures { result ≡ owes_hub self.now }
+    pub(crate) fn pending_at_hub(&self) -> bool
+        ensures { result ≡ pending_at_hub self.now }
     {
         self.core.awaited().is_some() || (self.ending.is_some() && self.is_in_hub_frame())
     }
@@ -151,9 +151,9 @@ impl EnvRun {
         }
     }
 
-    /// A turn of the innermost frame: its end, where it is owed or all asks are made, or what it asks.
+    /// A turn of the innermost frame: its end, where it is pending or all asks are made, or what it asks.
     fn frame_turn(&mut self, addons: &mut Vec<Box<dyn Addon>>, frame: &StandingFrame) -> LocalTurn
-        requires unowed { owes_hub self.old ≡ false }
+        requires unowed { pending_at_hub self.old ≡ false }
         requires enough { self.old.core.env.addons ≤ length addons.old.items }
         requires stands { head self.old.core.env.frames ≡ Some (machine_frame frame.now) }
         ensures plans { TellSamePlans (λ b. plan b) addons.old.items addons.new.items }
@@ -323,7 +323,7 @@ impl EnvRun {
 
     /// A turn where no frame stands: the next event, if it is one of the environment alone.
     fn event_turn(&mut self, addons: &mut Vec<Box<dyn Addon>>) -> LocalTurn
-        requires unowed { owes_hub self.old ≡ false }
+        requires unowed { pending_at_hub self.old ≡ false }
         requires alone { self.old.core.env.frames ≡ [] }
         requires enough { self.old.core.env.addons ≤ length addons.old.items }
         ensures plans { TellSamePlans (λ b. plan b) addons.old.items addons.new.items }
@@ -354,7 +354,7 @@ impl EnvRun {
 
     /// The next ticket begins its frame: its addon is given what it tells.
     fn begin_ticket(&mut self, addons: &mut Vec<Box<dyn Addon>>)
-        requires unowed { owes_hub self.old ≡ false }
+        requires unowed { pending_at_hub self.old ≡ false }
         requires alone { self.old.core.env.frames ≡ [] }
         requires next { IsNextEvent NextEvent.Ticket (local_choice self.old.core.env) }
         requires enough { self.old.core.env.addons ≤ length addons.old.items }

@@ -20,9 +20,9 @@ use Rattle.env_loop.specs.declared.turn.LocalTurn.TheVariants as local
 use Rattle.env_loop.specs.Bursts.{AddsEntriesOf}
 use Rattle.env_loop.specs.FollowedRuns.{IsFollowed, RunGoesOn, GoesOnAt}
 use Rattle.env_loop.specs.OpenedAndGone.{IsOpenedRun}
-use Rattle.env_loop.specs.RecordedRuns.{Run, FitsHub, owes_hub}
+use Rattle.env_loop.specs.RecordedRuns.{Run, FitsHub, pending_at_hub}
 use Rattle.env_loop.specs.Recording.{AddonStates}
-use Rattle.env_loop.specs.Turns.{event_turn, turn_at, turn_of, turn_after, OwesAlone}
+use Rattle.env_loop.specs.Turns.{event_turn, turn_at, turn_of, turn_after, OnlyPendingChanged}
 use Rattle.env_loop.proofs.FreshAndEnded.{opened-runs-fit}
 use Rattle.runner.specs.AtPasses.{StandsBeside}
 use Rattle.runner.specs.ActorsAtTheLock.{GrewByEntries}
@@ -94,8 +94,8 @@ gone-at [] e is = gone-event (local_choice e) e.phase is
 gone-at (f ∷ fs) e is = cc
 
 -- where the turn finds the environment gone, it is
-pub gone-then : (old new : Run) → OwesAlone old new → local.Gone ≡ turn_after new old.core.env → new.core.env.phase ≡ phase.Gone
-gone-then old new owes is = (λ i. (owes i).core.env.phase) ∙ by (owes_hub new) (sym is)
+pub gone-then : (old new : Run) → OnlyPendingChanged old new → local.Gone ≡ turn_after new old.core.env → new.core.env.phase ≡ phase.Gone
+gone-then old new owes is = (λ i. (owes i).core.env.phase) ∙ by (pending_at_hub new) (sym is)
   where
     by : (b : Bool) → cond b local.NeedsHub (turn_of old.core.env) ≡ local.Gone → old.core.env.phase ≡ phase.Gone
     by true gone = cc

@@ -27,8 +27,8 @@ use Rattle.env_loop.specs.ActorRuns.{AddsEntryOf}
 use Rattle.env_loop.specs.HubTurns.{SpentAtFinals}
 use Rattle.env_loop.specs.FollowedRuns.{RunGoesOn}
 use Rattle.env_loop.specs.Recording.{AddonStates, HasSeen}
-use Rattle.env_loop.specs.RecordedRuns.{Run, OneMore, FitsHub, owes_hub}
-use Rattle.env_loop.specs.Turns.{IfCut, Awaits, begins_at_hub, next_ticket_info, turn_of, hub_duty_info_of, hub_event, turn_after, needs_hub, OnlyInnermostChanges, OwesAlone}
+use Rattle.env_loop.specs.RecordedRuns.{Run, OneMore, FitsHub, pending_at_hub}
+use Rattle.env_loop.specs.Turns.{IfCut, Awaits, begins_at_hub, next_ticket_info, turn_of, hub_duty_info_of, hub_event, turn_after, needs_hub, OnlyInnermostChanges, OnlyPendingChanged}
 use Rattle.stepper.specs.GivenTurns.{RunAtHub, ComesToTheHub, EnvironmentTurns, IsIdle}
 use Rattle.stepper.specs.Stepping.{measure, RunKeeps, EnvironmentSteps}
 use Rattle.stepper.proofs.OrderedTurns.{keeps-then}
@@ -37,7 +37,7 @@ use Rattle.stepper.proofs.OrderedTurns.{keeps-then}
 pub record Asked (plans : List Plan) (all : AddonStates) (old owing : Run) : Type 0 where
   pub comes : ComesToTheHub plans all old owing
   pub answered : old.core.awaited ≡ None
-  pub free : owes_hub old ≡ false → owes_hub owing ≡ true → old.ending ≡ None
+  pub free : pending_at_hub old ≡ false → pending_at_hub owing ≡ true → old.ending ≡ None
 
 -- the hub's turn keeps these
 pub record HubTurnedAs (n : Numbers) (owing new : Run) : Type 0 where
@@ -52,7 +52,7 @@ pub record HubTurned (n : Numbers) (r : HubTurn) (owing : Run) (before : HubSeen
   pub full : (r ≡ turn.Cut why.Full) ↔ Awaits owing.core.awaited (λ c. IsTrue (is_full (hub_room n before) c.call))
   pub memory : r ≡ turn.Cut why.Memory → Awaits owing.core.awaited (λ c. MayFindNoMemory (hub_room n before) before.hub actor.Env (given_by c) c.call)
   pub cut : IfCut r (λ w. (w ≢ why.Asks) × (new ≡ record owing { core = after_no_answer (length before.history) owing.core; ending = Some (end.Cut w) }))
-  pub nothing : (r ≡ turn.Nothing) ↔ ((owes_hub owing ≡ false) × (hub_event owing.core.env before.hub ≡ None))
+  pub nothing : (r ≡ turn.Nothing) ↔ ((pending_at_hub owing ≡ false) × (hub_event owing.core.env before.hub ≡ None))
   pub stays : r ≡ turn.Nothing → new ≡ owing
   pub same : r ≢ turn.Made → now.registers ≡ all.registers
   pub keeps : HubTurnedAs n owing new
@@ -66,7 +66,7 @@ pub record ComesNearer (n : Numbers) (plans : List Plan) (old new : RunAtHub) : 
   pub answered : new.run.core.awaited ≡ None
   pub falls : (measure n new.run new.hub < measure n old.run old.hub) ⊎ IsIdle old new
 
--- a run that awaits a call owes it
+-- a call that a run awaits is pending
 owes-awaited : (o : Option SharedCall) (b : Bool) (P : SharedCall → Type 0) → Awaits o P → (is_some o || b) ≡ true
 owes-awaited None b P awaits = absurd awaits
 owes-awaited (Some c) b P awaits = refl
@@ -76,11 +76,11 @@ awaits-some None P awaits none = absurd awaits
 awaits-some (Some c) P awaits none = cc
 
 module _ (n : Numbers) (plans : List Plan) (old owing new : Run) (before after : HubSeen) (all now : AddonStates) (a : Asked plans all old owing) where
-  -- nothing was owed before a call came to be awaited
+  -- nothing was pending before a call came to be awaited
   unended : (P : SharedCall → Type 0) → Awaits owing.core.awaited P → old.ending ≡ None
-  unended P awaits = by (owes_hub old) refl
+  unended P awaits = by (pending_at_hub old) refl
     where
-      by : (b : Bool) → owes_hub old ≡ b → old.ending ≡ None
+      by : (b : Bool) → pending_at_hub old ≡ b → old.ending ≡ None
       by true owes =
           let same : owing ≡ old = a.comes.once owes in
           absurd (awaits-some owing.core.awaited P awaits (ap (λ (r : Run). r.core.awaited) same ∙ a.answered))
@@ -112,13 +112,13 @@ module _ (n : Numbers) (plans : List Plan) (old owing new : Run) (before after :
         (ap (λ (r : Run). one_if (is_none r.ending)) t.cut.1) (ap (λ e. one_if (is_none e)) (unended P awaits)));
   }
     where
-      owes : owes_hub owing ≡ true
+      owes : pending_at_hub owing ≡ true
       owes = owes-awaited owing.core.awaited (is_some owing.ending && is_hub_duty (duty_of owing.core.env.frames)) P awaits
 
       was : turn.Cut w ≡ turn.Cut why.Full → w ≡ why.Full
       was is = cc
 
-      sees-none : owes_hub owing ≡ true → HasSeen all.seen (option_to_list (begins_at_hub owing before.hub)) now.seen → HasSeen all.seen [] now.seen
+      sees-none : pending_at_hub owing ≡ true → HasSeen all.seen (option_to_list (begins_at_hub owing before.hub)) now.seen → HasSeen all.seen [] now.seen
       sees-none is seen = subst (λ b. HasSeen all.seen (option_to_list (cond b None (hub_duty_info_of (hub_event owing.core.env before.hub)))) now.seen) is seen
 
       less : (x y z w e f : ℕ) → x ≡ z → y ≡ w → e ≡ 0 → f ≡ 1 → 2 * (x + y) + e < 2 * (z + w) + f
@@ -145,7 +145,7 @@ module _ (n : Numbers) (plans : List Plan) (old owing new : Run) (before after :
       idle : IsIdle (record { run = old; hub = before; addons = all }) (record { run = new; hub = after; addons = now })
       idle = record {
         needs = subst (λ (r : Run). needs_hub r) same a.comes.needs;
-        unowed = ap owes_hub (sym same) ∙ (t.nothing.0 refl).0;
+        unowed = ap pending_at_hub (sym same) ∙ (t.nothing.0 refl).0;
         none = ap (λ (r : Run). hub_event r.core.env before.hub) (sym same) ∙ none;
         run = run;
         hub = t.hub (λ e. cc);
@@ -203,7 +203,7 @@ turned-from n r owing new before after all mid now registers seen t = subst (λ 
     same : mid ≡ all
     same = ap (λ rs. record { registers = rs; seen = mid.seen }) registers ∙ ap (λ ss. record { registers = all.registers; seen = ss }) seen
 
--- the run that owes is gone on to by the same addons
+-- the run that has something pending is gone on to by the same addons
 pub goes-same : (plans : List Plan) (old owing : Run) (all mid : AddonStates) → mid.registers ≡ all.registers → mid.seen ≡ all.seen
     → ((history : List Entry) → RunGoesOn plans old history all owing history mid) → (history : List Entry) → RunGoesOn plans old history all owing history all
 goes-same plans old owing all mid registers seen goes history = subst (λ (a : AddonStates). RunGoesOn plans old history all owing history a) same (goes history)
@@ -239,8 +239,9 @@ made-answered : (o : Option SharedCall) (b : Bool) (t : LocalTurn) → cond (is_
 made-answered None b t made = refl
 made-answered (Some c) b t made = cc
 
--- nothing was owed where it made one
-made-unowed : (old new : Run) (b : Bool) → owes_hub old ≡ b → (IsTrue (owes_hub old) → new ≡ old) → OneMore old.core.journal new.core.journal → b ≡ false
+-- nothing was pending where it made one
+made-unowed : (old new : Run) (b : Bool) → pending_at_hub old ≡ b → (IsTrue (pending_at_hub old) → new ≡ old) → OneMore old.core.journal new.core.journal
+    → b ≡ false
 made-unowed old new false is once one = refl
 made-unowed old new true is once one = absurd (longer (length old.core.journal) (length new.core.journal) (ap length one.last ∙ length-append old.core.journal (one.entry ∷ []))
     (ap (λ (r : Run). length r.core.journal) (once is)))
@@ -249,14 +250,23 @@ made-unowed old new true is once one = absurd (longer (length old.core.journal) 
     longer a b more same = omega (arith, more, same)
 
 pub went-alone : (n : Numbers) (plans : List Plan) (old new : Run) (before : HubSeen) (all now : AddonStates) → IsLedHub n before → turn_after new old.core.env ≡ local.Made
-    → OneMore old.core.journal new.core.journal → new.ending ≡ None → length old.core.journal < old.core.limit → (IsTrue (owes_hub old) → new ≡ old)
+    → OneMore old.core.journal new.core.journal → new.ending ≡ None → length old.core.journal < old.core.limit → (IsTrue (pending_at_hub old) → new ≡ old)
     → HasSeen all.seen (option_to_list (next_ticket_info old.core.env)) now.seen
     → OnlyInnermostChanges old.core.env.frames new.core.env.frames all.registers now.registers
     → FitsHub new before → RunKeeps n plans (record { run = old; hub = before; addons = all }) (record { run = new; hub = before; addons = now })
     → EnvironmentSteps n plans local.Made (record { run = old; hub = before; addons = all }) (record { run = new; hub = before; addons = now })
 went-alone n plans old new before all now led made one paid room once seen untouched fits kept = record {
   led = led;
-  turn = inl (record { unowed = made-unowed old new (owes_hub old) refl once one; turn = made; one = one; paid = paid; hub = refl; seen = seen; untouched = untouched });
+  turn = inl (record {
+    unowed = made-unowed old new
+        (pending_at_hub old) refl once one;
+    turn = made;
+    one = one;
+    paid = paid;
+    hub = refl;
+    seen = seen;
+    untouched = untouched;
+  });
   stands = record { fits = fits; answered = made-answered new.core.awaited (is_some new.ending && is_hub_duty (duty_of new.core.env.frames)) (turn_of old.core.env) made };
   kept = kept;
   spent = λ final. inl final;

@@ -42,7 +42,7 @@ use Rattle.env_loop.specs.ActorRuns.{NextWaits, calls_left, worker_state}
 use Rattle.env_loop.specs.ActorTurns.{actor_of, is_over, IsActorOf, IsSameActor, IsBlocked}
 use Rattle.env_loop.specs.FollowedRuns.{MayEndSo, IsFollowed, IsRecordedRun, HasNumbers, taken_in}
 use Rattle.env_loop.specs.Recording.{AddonStates, machine_of}
-use Rattle.env_loop.specs.RecordedRuns.{Run, owes_hub}
+use Rattle.env_loop.specs.RecordedRuns.{Run, pending_at_hub}
 use Rattle.env_loop.specs.Turns.{turn_at}
 use Rattle.env_loop.proofs.EventTurns.{needs-none}
 use Rattle.env_loop.proofs.FollowedRuns.{others-taken-in}
@@ -134,7 +134,7 @@ module _ (n : Numbers) (plans : List Plan) (old new : RunAtHub) (s : Setting) (f
       ))
   lists-turn (inr (inr (inr (inl m)))) =
       let e : Environment = old.run.core.env in
-      let needs : turn_at e.frames e ≡ turn.NeedsHub = unowed-turn (owes_hub old.run) (turn_at e.frames e) m.unowed m.needs in
+      let needs : turn_at e.frames e ≡ turn.NeedsHub = unowed-turn (pending_at_hub old.run) (turn_at e.frames e) m.unowed m.needs in
       let none : option_or (local_choice e) (hub_choice (hub_along (opening_of s).hub old.hub.history) (waiting_hooks e)) ≡ None =
       ap (λ (h : Hub). option_or (local_choice e) (hub_choice h (waiting_hooks e))) hub ∙ m.none in
       inr (inl (

@@ -25,7 +25,7 @@ use Rattle.env_loop.specs.declared.actor.ActorRun.TheVariants as run
 use Rattle.env_loop.specs.declared.turn.LocalTurn.{LocalTurn}
 use Rattle.env_loop.specs.declared.turn.LocalTurn.TheVariants as turn
 use Rattle.env_loop.specs.ActorTurns.{actor_of, IsActorOf}
-use Rattle.env_loop.specs.RecordedRuns.{Run, FitsHub, owes_hub}
+use Rattle.env_loop.specs.RecordedRuns.{Run, FitsHub, pending_at_hub}
 use Rattle.env_loop.specs.Turns.{event_turn, turn_at, needs_hub, hub_event}
 use Rattle.stepper.specs.TakingPart.{actors_of, round_of, rounds_of, turns_of, is_thread_run}
 use Rattle.stepper.specs.GivenTurns.{RunAtHub, Moment, moment_of, IsIdle, WasGone}
@@ -59,17 +59,18 @@ early-phase e phase.Finals s shows none needs = absurd (always (ticket_choice e 
     always (Some event) none = cc
 early-phase e phase.Gone s shows none needs = cc
 
--- nothing is owed, so that no frame stands
+-- nothing is pending, so that no frame stands
 no-frame : (fs : List Frame) (e : Environment) → turn_at fs e ≡ turn.NeedsHub → event_turn (local_choice e) e.phase ≡ turn.NeedsHub
 no-frame [] e needs = needs
 no-frame (f ∷ fs) e needs = cc
 
 -- so the hub has an event, or somebody goes on
-idle-goes-on : (n : Numbers) (r : Run) (s : HubSeen) → IsLedHub n s → FitsHub r s → needs_hub r → owes_hub r ≡ false → hub_event r.core.env s.hub ≡ None → SomebodyGoesOn s.hub
+idle-goes-on : (n : Numbers) (r : Run) (s : HubSeen) → IsLedHub n s → FitsHub r s → needs_hub r → pending_at_hub r ≡ false
+    → hub_event r.core.env s.hub ≡ None → SomebodyGoesOn s.hub
 idle-goes-on n r s led fits needs unowed none =
     let choice : local_choice r.core.env ≡ None = no-local (local_choice r.core.env) (hub_choice s.hub (waiting_hooks r.core.env)) none in
     let event : event_turn (local_choice r.core.env) r.core.env.phase ≡ turn.NeedsHub =
-    no-frame r.core.env.frames r.core.env (unowed-turn (owes_hub r) (turn_at r.core.env.frames r.core.env) unowed needs) in
+    no-frame r.core.env.frames r.core.env (unowed-turn (pending_at_hub r) (turn_at r.core.env.frames r.core.env) unowed needs) in
     somebody-always-goes-on n.limits.history n.threads n.workers s.history s.hub (waiting_hooks r.core.env) led.led
     (early-phase r.core.env r.core.env.phase s.hub.stage fits.stage choice (subst (λ o. event_turn o r.core.env.phase ≡ turn.NeedsHub) choice event))
     (no-hub (local_choice r.core.env) (hub_choice s.hub (waiting_hooks r.core.env)) none)

@@ -22,8 +22,8 @@ use Rattle.env_loop.specs.ActorRuns.{AddsEntryOf}
 use Rattle.env_loop.specs.ActorTurns.{actor_of, is_over, HoldsNoneExecuted, IsActorOf, IsSameActor, IsBlocked, StoppedSo, with_work_executed}
 use Rattle.env_loop.specs.FollowedRuns.{RunGoesOn, GoesOnAt}
 use Rattle.env_loop.specs.Recording.{AddonStates, HasSeen}
-use Rattle.env_loop.specs.RecordedRuns.{Run, OneMore, owes_hub}
-use Rattle.env_loop.specs.Turns.{turn_after, needs_hub, next_ticket_info, begins_at_hub, hub_event, Awaits, OnlyInnermostChanges, OwesAlone}
+use Rattle.env_loop.specs.RecordedRuns.{Run, OneMore, pending_at_hub}
+use Rattle.env_loop.specs.Turns.{turn_after, needs_hub, next_ticket_info, begins_at_hub, hub_event, Awaits, OnlyInnermostChanges, OnlyPendingChanged}
 use Rattle.stepper.specs.TakingPart.{actor_place}
 
 -- a moment of the environment's run
@@ -36,9 +36,9 @@ pub record KeepsAddons (old new : AddonStates) : Type 0 where
   pub registers : new.registers ≡ old.registers
   pub seen : HasSeen old.seen [] new.seen
 
--- it made one entry of the journal, by itself, and no end is owed after it
+-- it made one entry of the journal, by itself, and no end is pending after it
 pub record MakesLocal (old new : RunAtHub) : Type 0 where
-  pub unowed : owes_hub old.run ≡ false
+  pub unowed : pending_at_hub old.run ≡ false
   pub turn : turn_after new.run old.run.core.env ≡ local.Made
   pub one : OneMore old.run.core.journal new.run.core.journal
   pub paid : new.run.ending ≡ None
@@ -46,15 +46,15 @@ pub record MakesLocal (old new : RunAtHub) : Type 0 where
   pub seen : HasSeen old.addons.seen (option_to_list (next_ticket_info old.run.core.env)) new.addons.seen
   pub untouched : OnlyInnermostChanges old.run.core.env.frames new.run.core.env.frames old.addons.registers new.addons.registers
 
--- the hub had to make its turn, by this run. It is the one before, but that something may be owed that was not; and whatever run was followed goes on to it
+-- the hub had to make its turn, by this run. It is the one before, but that something may be pending that was not; and whatever run was followed goes on to it
 pub record ComesToTheHub (plans : List Plan) (all : AddonStates) (old owing : Run) : Type 0 where
   pub needs : needs_hub owing
-  pub owes : OwesAlone old owing
-  pub once : IsTrue (owes_hub old) → owing ≡ old
-  pub stays : owes_hub owing ≡ false → owing ≡ old
+  pub owes : OnlyPendingChanged old owing
+  pub once : IsTrue (pending_at_hub old) → owing ≡ old
+  pub stays : pending_at_hub owing ≡ false → owing ≡ old
   pub goes : (history : List Entry) → RunGoesOn plans old history all owing history all
 
--- it made one entry of the history, and no end is owed after it
+-- it made one entry of the history, and no end is pending after it
 pub record MakesAtHub (plans : List Plan) (old new : RunAtHub) : Type 0 where
   pub owing : Run
   pub comes : ComesToTheHub plans old.addons old.run owing
@@ -65,7 +65,7 @@ pub record MakesAtHub (plans : List Plan) (old new : RunAtHub) : Type 0 where
   pub untouched : OnlyInnermostChanges old.run.core.env.frames new.run.core.env.frames old.addons.registers new.addons.registers
 
 -- the hub stopped its call, as full exactly where the history has no room for it, or for want of memory. It made no entry: only the position moved, and the
--- frame is to end so, of which no end was owed before
+-- frame is to end so, of which no end was pending before
 pub record IsStopped (n : Numbers) (plans : List Plan) (old new : RunAtHub) : Type 0 where
   pub owing : Run
   pub comes : ComesToTheHub plans old.addons old.run owing
@@ -78,10 +78,10 @@ pub record IsStopped (n : Numbers) (plans : List Plan) (old new : RunAtHub) : Ty
   pub hub : new.hub ≡ old.hub
   pub addons : KeepsAddons old.addons new.addons
 
--- nothing was owed, and no event was next at the hub. Nothing changed
+-- nothing was pending, and no event was next at the hub. Nothing changed
 pub record IsIdle (old new : RunAtHub) : Type 0 where
   pub needs : needs_hub old.run
-  pub unowed : owes_hub old.run ≡ false
+  pub unowed : pending_at_hub old.run ≡ false
   pub none : hub_event old.run.core.env old.hub.hub ≡ None
   pub run : new.run ≡ old.run
   pub hub : new.hub ≡ old.hub

@@ -18,7 +18,7 @@ use Rattle.stepper.specs.TakingPart.{turns_of, rounds_of}
 use Rattle.stepper.specs.GivenTurns.{Moment}
 
 module _ {J : Type 0} where
-  -- what stands on the two lists at a moment, and whether the end of a frame is owed
+  -- what stands on the two lists at a moment, and whether the end of a frame is pending
   abbrev pub lists_at : Moment J → BothLists
   lists_at m = record { journal = m.env.run.core.journal; history = m.env.hub.history; stopped = is_some m.env.run.ending }
 
@@ -27,8 +27,8 @@ module _ {J : Type 0} where
   HasScript scripts (run.OfThread t) = slice_get scripts t.number ≡ Some t.operations
   HasScript scripts (run.OfWorker w) = Unit {0}
 
-  -- whatever script of these addons and threads it is a run of, and whatever the addons saw first, a run that was followed went on by these turns, as its two lists
-  -- show them
+  -- whatever script of these addons and threads it is a run of, and whatever the addons saw first, a run that was followed went on by these turns, as its two
+  -- lists show them
   abbrev pub LeadsLists : Numbers → List Plan → List Actor → Moment J → Moment J → Type 0
   LeadsLists n plans turns old new =
       (s : Setting) (scripts : List (List Op)) (firsts : List (List DueInfo)) → HasNumbers s n → IsOf s plans old.env.run.core

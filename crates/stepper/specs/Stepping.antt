@@ -21,8 +21,8 @@ use Rattle.stepper.specs.GivenTurns.{RunAtHub, EnvironmentTurns, IsIdle, WasGone
 use Rattle.stepper.specs.ListTurns.{LeadsLists}
 
 -- HOW FAR IT IS FROM ITS END
--- the places of both lists that no entry has taken count two each, and one more counts that no end is owed. An entry takes a place and may pay an end; a call that
--- the hub stops comes to owe one
+-- the places of both lists that no entry has taken count two each, and one more counts that no end is pending. An entry takes a place and may pay an end; a
+-- call that the hub stops comes to owe one
 abbrev pub measure : Numbers → Run → HubSeen → ℕ
 measure n run hub = 2 * ((run.core.limit - length run.core.journal) + (n.limits.history - length hub.history)) + one_if (is_none run.ending)
 

@@ -1,4 +1,4 @@
-//! Turns of the environment at a hub without threads and workers, with few places: what is owed, where a frame is cut, and what addons are
+//! Turns of the environment at a hub without threads and workers, with few places: what is pending, where a frame is cut, and what addons are
 //! asked. The two lists were worked out by hand.
 ghost use Rattle.std.specs.Prelude.{◌≡◌, ◌≤◌, length, None};
 ghost use Rattle.napi_types.specs.plain.Room.{most_entries};
@@ -351,7 +351,7 @@ fn counted(rt: &impl Abort, alloc: Global) -> Ran {
     ran_within(rt, alloc, list_of(rt, alloc, addon), (100, 100))
 }
 
-/// While a call or the end of a frame is owed the environment is asked for its turn three times, and the addon is asked once. So the hook's
+/// While a call or the end of a frame is pending the environment is asked for its turn three times, and the addon is asked once. So the hook's
 /// first ask is the sixth, after three calls and two frames that leave.
 #[test]
 fn an_addon_that_tells_no_plan_is_asked_once_while_something_is_owed(rt: HostRuntime) {

@@ -1,7 +1,7 @@
 use Rattle.std.proofs.Common.{ap, ◌∙◌, ◌+◌}
 use Rattle.napi_types.specs.parts.Frames.{duty_of, is_hub_duty}
 use Rattle.env_loop.specs.RecordedRuns.{Run}
-use Rattle.env_loop.proofs.OwedEnds.{ends-so, ended-runs, ended-turn}
+use Rattle.env_loop.proofs.PendingEnds.{ends-so, ended-runs, ended-turn}
 use Rattle.env_loop.proofs.run.EnvRun.end_at_hub.Goals as goal
 
 pub end_frame-requires-clause-end : goal.end_frame-requires-clause-end

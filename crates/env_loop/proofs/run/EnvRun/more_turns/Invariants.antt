@@ -2,10 +2,10 @@ use Rattle.std.proofs.Common.{◌≡◌, ℕ, List, Option, map}
 use Rattle.napi_types.specs.declared.duties.DueInfo.{DueInfo}
 use Rattle.napi_types.specs.declared.op.Op.{Op}
 use Rattle.addon_trait.specs.Addons.{TellSamePlans}
-use Rattle.env_loop.specs.Bursts.{IsPaid, IsBurst, TurnsOn}
+use Rattle.env_loop.specs.Bursts.{NothingPending, IsBurst, TurnsOn}
 use Rattle.env_loop.proofs.run.EnvRun.more_turns.Given as goal
 
--- the turns so far made this many entries, and nothing is owed
+-- the turns so far made this many entries, and nothing is pending
 abbrev pub invariant-loop-made : goal.invariant-loop-made
 invariant-loop-made g l =
     let first_plans : List (Option (List (List Op))) = map (λ b. (goal.Addon-dyn g (b.vtable, b.value)).plan b.value) l.fn.addons.items in
@@ -18,5 +18,5 @@ invariant-loop-made g l =
       on : TurnsOn g.N.Naming.numbers first_plans l.made (record { run = l.fn.self; hub = l.fn.hub; addons = record { registers = first_regs; seen = first_seen } })
           (record { run = l.self; hub = l.hub; addons = record { registers = regs; seen = seen } });
       burst : IsBurst g.N.Naming.numbers first_plans l.made l.fn.self l.fn.hub (record { registers = first_regs; seen = first_seen }) l.self l.hub (record { registers = regs; seen = seen });
-      paid : IsPaid l.self;
+      paid : NothingPending l.self;
     }

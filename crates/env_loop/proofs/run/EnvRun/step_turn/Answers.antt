@@ -5,7 +5,7 @@ use Rattle.napi_types.specs.plain.Lists.{head}
 use Rattle.env_core.specs.Core.{Core}
 use Rattle.env_core.specs.Standing.{machine_frame}
 use Rattle.env_loop.specs.declared.run.FrameEnd.TheVariants as end
-use Rattle.env_loop.specs.RecordedRuns.{Run, owes_hub}
+use Rattle.env_loop.specs.RecordedRuns.{Run, pending_at_hub}
 use Rattle.env_loop.proofs.CallTurns.{replied-turn, replied-running, entered-turn, entered-running, entered-idle, target-there, is-true, not-shared, shared-more, shared-running}
 use Rattle.env_loop.proofs.CutTurns.{stopped-ends}
 use Rattle.env_loop.proofs.EndTurns.{ends-turn-at}
@@ -102,7 +102,7 @@ pub returns-in-Shared-clause-turn : goal.returns-in-Shared-clause-turn
 returns-in-Shared-clause-turn g c =
     let shared = is-true (is_shared c.args.call.now) c.in-Shared.ensures.local in
     let run : Run = record { core = c.step.new.self; begun = c.self.inside.begun; ending = c.self.inside.ending } in
-    let owes = ap (λ (x : Core). owes_hub (record run { core = x })) ((c.in-Shared.ensures.shared shared).1) in
+    let owes = ap (λ (x : Core). pending_at_hub (record run { core = x })) ((c.in-Shared.ensures.shared shared).1) in
     sym (turn-owes run c.args.self.now.core.env owes)
 
 pub returns-in-Shared-clause-goes : goal.returns-in-Shared-clause-goes

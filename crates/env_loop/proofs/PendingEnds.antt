@@ -44,7 +44,7 @@ use Rattle.env_loop.specs.declared.run.FrameEnd.TheVariants as end
 use Rattle.env_loop.specs.FollowedRuns.{Asks, MayEndSo, IsRecordedRun, taken_in, HasNumbers}
 use Rattle.env_loop.specs.HubTurns.{IsHubTurn}
 use Rattle.env_loop.specs.Recording.{AddonStates, machine_of, HasSeen, IsOf, IsRecorded, RecordsOwn}
-use Rattle.env_loop.specs.RecordedRuns.{Run, IsSoundEnvironment, IsRunning, cut_at, owes_hub, FitsHub}
+use Rattle.env_loop.specs.RecordedRuns.{Run, IsSoundEnvironment, IsRunning, cut_at, pending_at_hub, FitsHub}
 use Rattle.env_loop.specs.SharedEntries.{shared_step}
 use Rattle.env_loop.specs.Turns.{OnlyInnermostChanges, hub_duty_info_of, hub_event}
 use Rattle.env_loop.proofs.FrameTurns.{HasTopFrame, stands-so, sound-ended}
@@ -215,7 +215,7 @@ turn-ended : (n : Numbers) (plans : List Plan) (run : Run) (how : FrameEnd) (bef
     → IsHubTurn n plans run before all (ended_run run how (length after.history)) after all
 turn-ended n plans run how before after all led sound f fits idle owed adds keeps alone =
     let new : Run = ended_run run how (length after.history) in
-    let owes : owes_hub run ≡ true = ends-owed run.core.awaited run.ending (is_hub_duty (duty_of run.core.env.frames)) how owed f.ours in
+    let owes : pending_at_hub run ≡ true = ends-owed run.core.awaited run.ending (is_hub_duty (duty_of run.core.env.frames)) how owed f.ours in
     record {
       made = record { entry = end_entry how run.core.env; by = refl; adds = adds };
       answered = idle;
