@@ -45,7 +45,7 @@ use Rattle.env_loop.specs.declared.turn.LocalTurn.TheVariants as turn
 use Rattle.env_loop.specs.FollowedRuns.{Asks, StoppedAtHub, MayEndSo, IsRecordedRun}
 use Rattle.env_loop.specs.Recording.{AddonStates, machine_of, HasSeen, IsOf, IsRecorded, RecordsOwn}
 use Rattle.env_loop.specs.RecordedRuns.{Run, IsSoundEnvironment, Holds, IsRunning, cut_at}
-use Rattle.env_loop.specs.Turns.{ReplyIsNoted, OnlyInnermostChanges, IsTurn, BecamePending, MatchTurn, turn_after, EndsHere, EndsOrOwes}
+use Rattle.env_loop.specs.Turns.{ReplyIsNoted, OnlyInnermostChanges, IsTurn, BecamePending, MatchTurn, turn_after, EndedNow, EndedOrPending}
 use Rattle.env_loop.proofs.LocalGoing.{if_some-none, stages-same}
 use Rattle.env_loop.proofs.MadeTurns.{none-there, running-idle, states-same, turn-made, turn-owes, made-turn}
 use Rattle.env_loop.proofs.Recordings.{local-grown}
@@ -149,7 +149,7 @@ pub record MayEndInScripts (ps : List Plan) (old : Run) (all : AddonStates) (v :
 
 -- IT ENDS
 ended-turn : (ps : List Plan) (old new : Run) (all now : AddonStates) (v : Option HandleId) (how : FrameEnd) → MayEndInScripts ps old all v how
-    → is_hub_duty (duty_of old.core.env.frames) ≡ false → EndsHere ps all.registers old v how new now.registers → now.seen ≡ all.seen
+    → is_hub_duty (duty_of old.core.env.frames) ≡ false → EndedNow ps all.registers old v how new now.registers → now.seen ≡ all.seen
     → IsTurn ps old all new now
 ended-turn ps old new all now v how i local here same =
     let cut : Option Why = cut_at how in
@@ -219,7 +219,7 @@ owed-end ps old all v how i hub = record {
 -- a turn at which the innermost frame ends, or its end is pending, whichever it is
 pub ends-turn : (b : Bool) (ps : List Plan) (old new : Run) (all now : AddonStates) (v : Option HandleId) (how : FrameEnd) (r : LocalTurn)
     → MayEndInScripts ps old all v how
-    → b ≡ is_hub_duty (duty_of old.core.env.frames) → EndsOrOwes b ps all.registers old v how new now.registers → now.seen ≡ all.seen
+    → b ≡ is_hub_duty (duty_of old.core.env.frames) → EndedOrPending b ps all.registers old v how new now.registers → now.seen ≡ all.seen
     → r ≡ turn_after new old.core.env
     → MatchTurn r ps old all new now
 ends-turn false ps old new all now v how r i local here same is =
@@ -239,12 +239,12 @@ ends-turn true ps old new all now v how r i hub owed same is =
 pub ends-turn-at : (b : Bool) (ps qs : List Plan) (old mid new : Run) (all : AddonStates) (regs : Registers) (now : AddonStates) (v : Option HandleId)
     (how : FrameEnd) (r : LocalTurn)
     → MayEndInScripts ps old all v how → b ≡ is_hub_duty (duty_of old.core.env.frames) → mid ≡ old → qs ≡ ps → regs ≡ all.registers
-    → EndsOrOwes b qs regs mid v how new now.registers
+    → EndedOrPending b qs regs mid v how new now.registers
     → now.seen ≡ all.seen → r ≡ turn_after new mid.core.env → MatchTurn r ps old all new now
 ends-turn-at b ps qs old mid new all regs now v how r i is same plans registers here unseen result =
-    let M : Run → Type 0 = λ x. EndsOrOwes b ps all.registers x v how new now.registers in
-    let Q : List Plan → Type 0 = λ x. EndsOrOwes b x all.registers mid v how new now.registers in
-    let R : Registers → Type 0 = λ x. EndsOrOwes b qs x mid v how new now.registers in
+    let M : Run → Type 0 = λ x. EndedOrPending b ps all.registers x v how new now.registers in
+    let Q : List Plan → Type 0 = λ x. EndedOrPending b x all.registers mid v how new now.registers in
+    let R : Registers → Type 0 = λ x. EndedOrPending b qs x mid v how new now.registers in
     ends-turn b ps old new all now v how r i is (subst M same (subst Q plans (subst R registers here))) unseen
     (result ∙ ap (λ (x : Run). turn_after new x.core.env) same)
 

@@ -19,7 +19,7 @@ use Rattle.env_loop.specs.declared.turn.LocalTurn.TheVariants as turn
 use Rattle.env_loop.specs.Recording.{AddonStates, HasSeen}
 use Rattle.env_loop.specs.RecordedRuns.{Run, IsSoundEnvironment, IsAwaited, IsPendingEnd, IsRunning, hub_begun, pending_at_hub, FitsHub, OneMore}
 use Rattle.env_loop.specs.FollowedRuns.{IsFollowed, RunGoesOn}
-use Rattle.env_loop.specs.Turns.{event_turn, turn_at, turn_after, next_ticket_info, OnlyInnermostChanges, IsTurn, OnlyPendingChanged, BecamePending, IsSame, MatchTurn, EndsSo, EndsOrOwes}
+use Rattle.env_loop.specs.Turns.{event_turn, turn_at, turn_after, next_ticket_info, OnlyInnermostChanges, IsTurn, OnlyPendingChanged, BecamePending, IsSame, MatchTurn, EndedBy, EndedOrPending}
 use Rattle.env_loop.proofs.CutTurns.{unowed-local}
 use Rattle.env_loop.proofs.LocalGoing.{stages-same, fits-local}
 use Rattle.env_loop.proofs.SeenLists.{begins-none, seen-stays}
@@ -72,23 +72,25 @@ room-seen new inside old same sound made room =
     subst P same (room-left new inside.core sound (ap (λ (r : Run). turn_after new r.core.env) same ∙ made) room)
 
 -- WHERE AN END IS OWED
-ends-here : (b : Bool) (ps : List Plan) (all now : Registers) (old new : Run) (how : FrameEnd) → b ≡ false → EndsOrOwes b ps all old None how new now → EndsSo how old.core new.core
+ends-here : (b : Bool) (ps : List Plan) (all now : Registers) (old new : Run) (how : FrameEnd) → b ≡ false → EndedOrPending b ps all old None how new now
+    → EndedBy how old.core new.core
 ends-here true ps all now old new how h e = cc
 ends-here false ps all now old new how h e = e.ended
 
 -- so it ended here
 pub ends-owed : (ps : List Plan) (all now : Registers) (inside old new : Run) (how : FrameEnd) (b : Bool) → inside ≡ old → b ≡ is_hub_duty (duty_of inside.core.env.frames)
-    → Some how ≡ inside.ending → pending_at_hub old ≡ false → EndsOrOwes b ps all old None how new now → IfSome old.ending (λ h. EndsSo h old.core new.core)
+    → Some how ≡ inside.ending → pending_at_hub old ≡ false → EndedOrPending b ps all old None how new now → IfSome old.ending
+    (λ h. EndedBy h old.core new.core)
 ends-owed ps all now inside old new how b same duty is unowed e =
-    let Q : Option FrameEnd → Type 0 = λ o. IfSome o (λ h. EndsSo h old.core new.core) in
+    let Q : Option FrameEnd → Type 0 = λ o. IfSome o (λ h. EndedBy h old.core new.core) in
     subst Q (is ∙ ap (λ (r : Run). r.ending) same)
     (ends-here b ps all now old new how (duty ∙ unowed-local inside how (ap pending_at_hub same ∙ unowed) (sym is)) e)
 
 -- none is owed where none is kept, ..
-pub ends-none : (inside old : Run) (new : Core) → inside ≡ old → inside.ending ≡ None → IfSome old.ending (λ h. EndsSo h old.core new)
+pub ends-none : (inside old : Run) (new : Core) → inside ≡ old → inside.ending ≡ None → IfSome old.ending (λ h. EndedBy h old.core new)
 ends-none inside old new same none =
-    let P : Run → Type 0 = λ r. IfSome r.ending (λ h. EndsSo h r.core new) in
-    let Q : Option FrameEnd → Type 0 = λ o. IfSome o (λ h. EndsSo h inside.core new) in
+    let P : Run → Type 0 = λ r. IfSome r.ending (λ h. EndedBy h r.core new) in
+    let Q : Option FrameEnd → Type 0 = λ o. IfSome o (λ h. EndedBy h inside.core new) in
     subst P same (subst Q (sym none) tt)
 
 -- .. nor where no frame stands
@@ -97,10 +99,10 @@ ends-unstood e None P owed alone = tt
 ends-unstood e (Some how) P owed alone = absurd (owed.stands alone)
 
 pub ends-alone : (inside old : Run) (new : Core) → inside ≡ old → IsRunning inside.core inside.begun inside.ending → inside.core.env.frames ≡ []
-    → IfSome old.ending (λ h. pending_at_hub old ≡ false → EndsSo h old.core new)
+    → IfSome old.ending (λ h. pending_at_hub old ≡ false → EndedBy h old.core new)
 ends-alone inside old new same runs alone =
-    let P : Run → Type 0 = λ r. IfSome r.ending (λ h. pending_at_hub r ≡ false → EndsSo h r.core new) in
-    subst P same (ends-unstood inside.core.env inside.ending (λ h. pending_at_hub inside ≡ false → EndsSo h inside.core new) runs.ends alone)
+    let P : Run → Type 0 = λ r. IfSome r.ending (λ h. pending_at_hub r ≡ false → EndedBy h r.core new) in
+    subst P same (ends-unstood inside.core.env inside.ending (λ h. pending_at_hub inside ≡ false → EndedBy h inside.core new) runs.ends alone)
 
 -- WHAT IT TELLS
 pub record TurnTells (t : LocalTurn) (ps : List Plan) (old : Run) (all : AddonStates) (new : Run) (now : AddonStates) : Type 0 where

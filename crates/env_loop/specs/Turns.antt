@@ -184,18 +184,18 @@ MatchTurn turn.Made plans old all new now = IsTurn plans old all new now
 MatchTurn turn.NeedsHub plans old all new now = BecamePending plans old all new now ⊎ IsSame old all new now
 MatchTurn turn.Gone plans old all new now = IsSame old all new now
 
--- the innermost frame ended so here, no duty of the hub with it, and the addon of its caller was told
-pub record EndsHere (plans : List Plan) (all : Registers) (old : Run) (value : Option HandleId) (how : FrameEnd) (new : Run) (now : Registers) : Type 0 where
+-- the innermost frame ended in this turn, no duty of the hub with it, and the addon of its caller was told
+pub record EndedNow (plans : List Plan) (all : Registers) (old : Run) (value : Option HandleId) (how : FrameEnd) (new : Run) (now : Registers) : Type 0 where
   pub ended : new.core ≡ after_change (end_change value (cut_at how) old.core.env) old.core
   pub ending : new.ending ≡ None
   pub begun : hub_begun new.begun ≡ hub_begun old.begun
   pub told : ReplyIsNoted plans all (at_last_ask (tail old.core.env.frames)) (end_change value (cut_at how) old.core.env).entry.reply now
 
 -- the innermost frame of an environment ended so, without a value
-abbrev pub EndsSo : FrameEnd → Core → Core → Type 0
-EndsSo how old new = new ≡ after_change (end_change None (cut_at how) old.env) old
+abbrev pub EndedBy : FrameEnd → Core → Core → Type 0
+EndedBy how old new = new ≡ after_change (end_change None (cut_at how) old.env) old
 
--- it ends here, or where a duty of the hub began it, its end is pending
-abbrev pub EndsOrOwes : Bool → List Plan → Registers → Run → Option HandleId → FrameEnd → Run → Registers → Type 0
-EndsOrOwes false plans all old value how new now = EndsHere plans all old value how new now
-EndsOrOwes true plans all old value how new now = (new ≡ record old { ending = Some how }) × (now ≡ all)
+-- it ended now, or where a duty of the hub began it, its end is pending
+abbrev pub EndedOrPending : Bool → List Plan → Registers → Run → Option HandleId → FrameEnd → Run → Registers → Type 0
+EndedOrPending false plans all old value how new now = EndedNow plans all old value how new now
+EndedOrPending true plans all old value how new now = (new ≡ record old { ending = Some how }) × (now ≡ all)

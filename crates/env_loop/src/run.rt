@@ -13,7 +13,7 @@ ghost use Rattle.env_loop.specs.Recording.{HasSeen, states_of};
 ghost use Rattle.env_loop.specs.RecordedRuns.{IsOpened, opened_run, pending_at_hub, FitsHub, OneMore};
 ghost use Rattle.env_loop.specs.FollowedRuns.{RunGoesOn, GoesOnAt};
 ghost use Rattle.env_loop.specs.HubTurns.{SpentAtFinals};
-ghost use Rattle.env_loop.specs.Turns.{turn_after, needs_hub, next_ticket_info, begins_at_hub, hub_event, IfCut, Awaits, OnlyInnermostChanges, OnlyPendingChanged, EndsSo};
+ghost use Rattle.env_loop.specs.Turns.{turn_after, needs_hub, next_ticket_info, begins_at_hub, hub_event, IfCut, Awaits, OnlyInnermostChanges, OnlyPendingChanged, EndedBy};
 
 use crate::turn::LocalTurn;
 use addon_trait::Addon;
@@ -108,7 +108,7 @@ impl EnvRun {
         ensures unseen { result ≢ LocalTurn.Made → map (λ b. seen b) addons.new.items ≡ map (λ b. seen b) addons.old.items }
 
         // Where the end of a frame was pending and the hub is not to make it, the frame ended so.
-        ensures ends { IfSome self.old.ending (λ how. pending_at_hub self.old ≡ false → EndsSo how self.old.core self.new.core) }
+        ensures ends { IfSome self.old.ending (λ how. pending_at_hub self.old ≡ false → EndedBy how self.old.core self.new.core) }
 
         // A run that was followed goes on over the same history. It fits with each hub with which it fitted, and the addons that are no addons
         // of the script keep their registers.

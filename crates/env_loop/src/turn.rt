@@ -11,7 +11,7 @@ ghost use Rattle.env_core.specs.Core.{after_change};
 ghost use Rattle.env_core.specs.Standing.{machine_frame};
 ghost use Rattle.env_loop.specs.Recording.{why_stopped, states_of};
 ghost use Rattle.env_loop.specs.RecordedRuns.{IsSoundEnvironment, cut_at, hub_begun, pending_at_hub, OneMore, FitsHub};
-ghost use Rattle.env_loop.specs.Turns.{event_turn as turn_at_event, turn_after, next_ticket_info, IsNextEvent, IsAskOf, ReplyIsNoted, IsTurn, MatchTurn, EndsOrOwes, EndsSo};
+ghost use Rattle.env_loop.specs.Turns.{event_turn as turn_at_event, turn_after, next_ticket_info, IsNextEvent, IsAskOf, ReplyIsNoted, IsTurn, MatchTurn, EndedOrPending, EndedBy};
 
 use crate::run::{EnvRun, FrameEnd};
 use addon_trait::{Addon, ask_at, begin_at, enter_at, note_at};
@@ -122,7 +122,7 @@ impl EnvRun {
             let after = states_of (λ b. regs b) (λ b. seen b) addons.new.items in
             MatchTurn result (map (λ b. plan b) addons.old.items) self.old before self.new after }
         ensures unbegun { result ≢ LocalTurn.Made → next_ticket_info self.old.core.env ≡ None }
-        ensures ends { IfSome self.old.ending (λ how. pending_at_hub self.old ≡ false → EndsSo how self.old.core self.new.core) }
+        ensures ends { IfSome self.old.ending (λ how. pending_at_hub self.old ≡ false → EndedBy how self.old.core self.new.core) }
         ensures once { pending_at_hub self.old ≡ true → (self.new ≡ self.old) × (map (λ b. regs b) addons.new.items ≡ map (λ b. regs b) addons.old.items) }
     {
         if self.pending_at_hub() {
@@ -157,7 +157,7 @@ impl EnvRun {
         requires enough { self.old.core.env.addons ≤ length addons.old.items }
         requires stands { head self.old.core.env.frames ≡ Some (machine_frame frame.now) }
         ensures plans { TellSamePlans (λ b. plan b) addons.old.items addons.new.items }
-        ensures ends { IfSome self.old.ending (λ how. EndsSo how self.old.core self.new.core) }
+        ensures ends { IfSome self.old.ending (λ how. EndedBy how self.old.core self.new.core) }
         ensures turn { result ≡ turn_after self.new self.old.core.env }
         ensures goes { let before = states_of (λ b. regs b) (λ b. seen b) addons.old.items in
             let after = states_of (λ b. regs b) (λ b. seen b) addons.new.items in
@@ -268,7 +268,7 @@ impl EnvRun {
         ensures turn { result ≡ turn_after self.new self.old.core.env }
         ensures ends { let before = map (λ b. regs b) addons.old.items in
             let after = map (λ b. regs b) addons.new.items in
-            EndsOrOwes (is_hub_duty duty) (map (λ b. plan b) addons.old.items) before self.old value end self.new after }
+            EndedOrPending (is_hub_duty duty) (map (λ b. plan b) addons.old.items) before self.old value end self.new after }
     {
         if is_of_hub(duty) {
             self.ending = Some(end);
