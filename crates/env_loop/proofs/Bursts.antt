@@ -25,7 +25,7 @@ use Rattle.env_loop.specs.declared.run.HubTurn.TheVariants as hub_turn
 use Rattle.env_loop.specs.declared.turn.LocalTurn.{LocalTurn}
 use Rattle.env_loop.specs.declared.turn.LocalTurn.TheVariants as turn
 use Rattle.env_loop.specs.ActorRuns.{AddsEntryOf}
-use Rattle.env_loop.specs.Bursts.{asks_no_more, silent_end, is_of_hub, comes_over, comes_to_hub, made_by, AreHubNext, AddsEntriesOf, NothingPending, IsBurst, RunAtHub, BurstBetween, TurnsOn, StopsAtAsks}
+use Rattle.env_loop.specs.Bursts.{asks_no_more, silent_end, is_of_hub, hub_is_next_at, hub_is_next, made_by, AreHubNext, AddsEntriesOf, NothingPending, IsBurst, RunAtHub, BurstBetween, TurnsOn, StopsAtAsks}
 use Rattle.env_loop.specs.FollowedRuns.{RunGoesOn, GoesOnAt}
 use Rattle.env_loop.specs.Recording.{AddonStates}
 use Rattle.env_loop.specs.RecordedRuns.{Run, IsSoundEnvironment, IsRunning, pending_at_hub, FitsHub}
@@ -142,7 +142,7 @@ turns-then n plans later j k m a b c s t u x y z planned is first last =
 -- TURN BY TURN
 -- a turn that made an entry, where the next event was the hub's
 pub on-more : (n : Numbers) (plans later : List Plan) (t : HubTurn) (k m : ℕ) (old mid new : RunAtHub) → later ≡ plans → k + 1 ≡ m → t ≡ hub_turn.Made → TurnsOn n plans k old mid
-    → comes_to_hub mid.run ≡ true → BurstBetween n later (made_by t) mid new → TurnsOn n plans m old new
+    → hub_is_next mid.run ≡ true → BurstBetween n later (made_by t) mid new → TurnsOn n plans m old new
 on-more n plans later t k m old mid new planned is made on comes last =
     let one_made : BurstBetween n later 1 mid new = subst (λ (u : HubTurn). BurstBetween n later (made_by u) mid new) made last in
     subst (λ (j : ℕ). TurnsOn n plans j old new) (sym (add-one k) ∙ is) (mid, on, comes, subst (λ ps. BurstBetween n ps 1 mid new) planned one_made)
@@ -169,23 +169,23 @@ stops-at-asks n plans later t k old first new planned made on one_made =
 
 -- WHERE THE NEXT EVENT IS THE HUB'S
 -- the turn that is to be made where nothing is pending, and no frame stands
-over-none : (fs : List Frame) (e : Environment) → turn_at fs e ≡ turn.NeedsHub → comes_over fs e ≡ true
+over-none : (fs : List Frame) (e : Environment) → turn_at fs e ≡ turn.NeedsHub → hub_is_next_at fs e ≡ true
 over-none [] e needs = ap is_of_hub needs
 over-none (f ∷ fs) e needs = cc
 
-pub needed-comes : (run : Run) → needs_hub run → comes_to_hub run ≡ true
+pub needed-comes : (run : Run) → needs_hub run → hub_is_next run ≡ true
 needed-comes run needs = by (pending_at_hub run) refl
   where
-    by : (b : Bool) → pending_at_hub run ≡ b → comes_to_hub run ≡ true
-    by true owes = ap (λ b. b || comes_over run.core.env.frames run.core.env) owes
+    by : (b : Bool) → pending_at_hub run ≡ b → hub_is_next run ≡ true
+    by true owes = ap (λ b. b || hub_is_next_at run.core.env.frames run.core.env) owes
     by false owes =
-        ap (λ b. b || comes_over run.core.env.frames run.core.env) owes
+        ap (λ b. b || hub_is_next_at run.core.env.frames run.core.env) owes
         ∙ over-none run.core.env.frames run.core.env (sym (ap (λ b. cond b turn.NeedsHub (turn_of run.core.env)) owes) ∙ needs)
 
 -- what comes next where nothing is pending
-pub comes-unowed : (run : Run) → NothingPending run → comes_to_hub run ≡ true → comes_over run.core.env.frames run.core.env ≡ true
+pub comes-unowed : (run : Run) → NothingPending run → hub_is_next run ≡ true → hub_is_next_at run.core.env.frames run.core.env ≡ true
 comes-unowed run paid comes =
-    sym (ap (λ b. b || comes_over run.core.env.frames run.core.env)
+    sym (ap (λ b. b || hub_is_next_at run.core.env.frames run.core.env)
     (ap (λ o. is_some o || (is_some run.ending && is_hub_duty (duty_of run.core.env.frames))) paid.answered
     ∙ ap (λ (o : Option FrameEnd). is_some o && is_hub_duty (duty_of run.core.env.frames)) paid.ended)) ∙ comes
 
@@ -194,7 +194,8 @@ both-last : (a b : Bool) → (a && b) ≡ true → b ≡ true
 both-last true b both = both
 both-last false b both = cc
 
-at-top : (fs : List Frame) (e : Environment) (f : Frame) → head fs ≡ Some f → comes_over fs e ≡ true → (is_hub_duty (duty_of fs) ≡ true) × (asks_no_more f ≡ true)
+at-top : (fs : List Frame) (e : Environment) (f : Frame) → head fs ≡ Some f → hub_is_next_at fs e ≡ true
+    → (is_hub_duty (duty_of fs) ≡ true) × (asks_no_more f ≡ true)
 at-top [] e f top comes = cc
 at-top (g ∷ gs) e f top comes =
     let same : g ≡ f = cc in
@@ -229,13 +230,13 @@ silent-may plans old all f sound paid top silent = by (nat_lt f.asks most_asks) 
 
 -- so its end comes to be pending
 pub silent-owed : (inside old : Run) (f : Frame) → inside ≡ old → IsRunning inside.core inside.begun inside.ending → NothingPending old
-    → comes_to_hub old ≡ true
+    → hub_is_next old ≡ true
     → head inside.core.env.frames ≡ Some f → (plans : List Plan) (all : AddonStates) (history : List Entry)
     → RunGoesOn plans old history all (record inside { ending = Some (silent_end f) }) history all
 silent-owed inside old f same runs paid comes top plans all history =
     let R : Run → Type 0 = λ r. RunGoesOn plans r history all (record inside { ending = Some (silent_end f) }) history all in
     let paid_here : NothingPending inside = subst NothingPending (sym same) paid in
-    let over = at-top inside.core.env.frames inside.core.env f top (comes-unowed inside paid_here (ap comes_to_hub same ∙ comes)) in
+    let over = at-top inside.core.env.frames inside.core.env f top (comes-unowed inside paid_here (ap hub_is_next same ∙ comes)) in
     subst R same ((owed-end plans inside all None (silent_end f) (silent-may plans inside all f runs.sound paid_here top over.1) over.0).goes history)
 
 -- and the run keeps what it has to
@@ -250,11 +251,11 @@ spent-asks fs f top within is = ap asks_made (head-stands fs f top) ∙ by (nat_
     by false below = spent f.asks most_asks below within
 
 pub silent-running : (inside old : Run) (f : Frame) → inside ≡ old → IsRunning inside.core inside.begun inside.ending → NothingPending old
-    → comes_to_hub old ≡ true
+    → hub_is_next old ≡ true
     → head inside.core.env.frames ≡ Some f → IsRunning inside.core inside.begun (Some (silent_end f))
 silent-running inside old f same runs paid comes top =
     let paid_here : NothingPending inside = subst NothingPending (sym same) paid in
-    let over = at-top inside.core.env.frames inside.core.env f top (comes-unowed inside paid_here (ap comes_to_hub same ∙ comes)) in
+    let over = at-top inside.core.env.frames inside.core.env f top (comes-unowed inside paid_here (ap hub_is_next same ∙ comes)) in
     record {
       sound = runs.sound;
       held = runs.held;
@@ -268,11 +269,11 @@ silent-running inside old f same runs paid comes top =
     }
 
 -- the hub has to make its turn then, ..
-pub silent-needs : (inside old : Run) (f : Frame) → inside ≡ old → NothingPending old → comes_to_hub old ≡ true → head inside.core.env.frames ≡ Some f
+pub silent-needs : (inside old : Run) (f : Frame) → inside ≡ old → NothingPending old → hub_is_next old ≡ true → head inside.core.env.frames ≡ Some f
     → needs_hub (record inside { ending = Some (silent_end f) })
 silent-needs inside old f same paid comes top =
     let paid_here : NothingPending inside = subst NothingPending (sym same) paid in
-    let over = at-top inside.core.env.frames inside.core.env f top (comes-unowed inside paid_here (ap comes_to_hub same ∙ comes)) in
+    let over = at-top inside.core.env.frames inside.core.env f top (comes-unowed inside paid_here (ap hub_is_next same ∙ comes)) in
     turn-owes (record inside { ending = Some (silent_end f) }) inside.core.env (either (is_some inside.core.awaited) (is_hub_duty (duty_of inside.core.env.frames)) over.0)
   where
     either : (a b : Bool) → b ≡ true → (a || (true && b)) ≡ true
@@ -285,15 +286,15 @@ is-needing turn.NeedsHub is = refl
 is-needing turn.Made is = cc
 is-needing turn.Gone is = cc
 
-none-over : (fs : List Frame) (e : Environment) → head fs ≡ None → comes_over fs e ≡ true → turn_at fs e ≡ turn.NeedsHub
+none-over : (fs : List Frame) (e : Environment) → head fs ≡ None → hub_is_next_at fs e ≡ true → turn_at fs e ≡ turn.NeedsHub
 none-over [] e none comes = is-needing (event_turn (local_choice e) e.phase) comes
 none-over (f ∷ fs) e none comes = cc
 
-pub comes-needs : (inside old : Run) → inside ≡ old → NothingPending old → comes_to_hub old ≡ true → head inside.core.env.frames ≡ None → needs_hub inside
+pub comes-needs : (inside old : Run) → inside ≡ old → NothingPending old → hub_is_next old ≡ true → head inside.core.env.frames ≡ None → needs_hub inside
 comes-needs inside old same paid comes none = by (pending_at_hub inside)
   where
     turns : turn_of inside.core.env ≡ turn.NeedsHub
-    turns = none-over inside.core.env.frames inside.core.env none (comes-unowed inside (subst NothingPending (sym same) paid) (ap comes_to_hub same ∙ comes))
+    turns = none-over inside.core.env.frames inside.core.env none (comes-unowed inside (subst NothingPending (sym same) paid) (ap hub_is_next same ∙ comes))
 
     by : (b : Bool) → cond b turn.NeedsHub (turn_of inside.core.env) ≡ turn.NeedsHub
     by true = refl
@@ -322,9 +323,9 @@ no-cut (hub_turn.Cut v) w none = absurd none
 
 -- there was nothing to do
 pub nothing-next : (mid new : Run) (s t : HubSeen) → needs_hub mid → (pending_at_hub mid ≡ false) × (hub_event mid.core.env s.hub ≡ None) → new ≡ mid → t ≡ s
-    → (pending_at_hub new ≡ false) × (comes_to_hub new ≡ true) × (hub_event new.core.env t.hub ≡ None)
+    → (pending_at_hub new ≡ false) × (hub_is_next new ≡ true) × (hub_event new.core.env t.hub ≡ None)
 nothing-next mid new s t needs none same stays = (
   ap pending_at_hub same ∙ none.0,
-  ap comes_to_hub same ∙ needed-comes mid needs,
+  ap hub_is_next same ∙ needed-comes mid needs,
   ap (λ (r : Run). hub_event r.core.env t.hub) same ∙ (ap (λ (h : HubSeen). hub_event mid.core.env h.hub) stays ∙ none.1),
 )

@@ -26,11 +26,11 @@ use Rattle.env_loop.specs.HubTurns.{KeepsJournal}
 use Rattle.env_loop.specs.Turns.{event_turn}
 
 -- WHERE THE NEXT EVENT IS THE HUB'S
--- a frame that makes no ask more: it makes none at all, or has made all that it may
+-- the frame's next turn is its end: it makes no asks at all, or has made all that it may
 abbrev pub asks_no_more : Frame → Bool
 asks_no_more f = not (f.makes_asks && nat_lt f.asks most_asks)
 
--- so it ends then
+-- and this is how: it leaves, or is cut after its last ask
 abbrev pub silent_end : Frame → FrameEnd
 silent_end f = cond (nat_lt f.asks most_asks) end.Leaves (end.Cut why.Asks)
 
@@ -41,13 +41,13 @@ is_of_hub _ = false
 
 -- the hub makes the next event, whatever an addon asks: the end of a frame of one of its duties, which makes no ask more; or, where no frame stands, an event
 -- that the environment does not decide alone, or the end of the loop
-abbrev pub comes_over : List Frame → Environment → Bool
-comes_over (f ∷ fs) e = is_hub_duty f.duty && asks_no_more f
-comes_over [] e = is_of_hub (event_turn (local_choice e) e.phase)
+abbrev pub hub_is_next_at : List Frame → Environment → Bool
+hub_is_next_at (f ∷ fs) e = is_hub_duty f.duty && asks_no_more f
+hub_is_next_at [] e = is_of_hub (event_turn (local_choice e) e.phase)
 
 -- the next event is the hub's: something is pending at it, or it makes the next event whatever an addon asks
-abbrev pub comes_to_hub : Run → Bool
-comes_to_hub run = pending_at_hub run || comes_over run.core.env.frames run.core.env
+abbrev pub hub_is_next : Run → Bool
+hub_is_next run = pending_at_hub run || hub_is_next_at run.core.env.frames run.core.env
 
 -- WHAT CAME
 -- from a hub on each of these entries is its next where it stands
@@ -95,7 +95,7 @@ BurstBetween n plans made old new = IsBurst n plans made old.run old.hub old.add
 -- turns of which so many made an entry, each of these where the next event was the hub's, whatever an addon might ask
 abbrev pub TurnsOn : Numbers → List Plan → ℕ → RunAtHub → RunAtHub → Type 0
 TurnsOn n plans zero old new = BurstBetween n plans 0 old new
-TurnsOn n plans (suc k) old new = (at : RunAtHub) × TurnsOn n plans k old at × (comes_to_hub at.run ≡ true) × BurstBetween n plans 1 at new
+TurnsOn n plans (suc k) old new = (at : RunAtHub) × TurnsOn n plans k old at × (hub_is_next at.run ≡ true) × BurstBetween n plans 1 at new
 
 -- a burst goes on after an entry only where the next event is the hub's: where an addon is to be asked it has stopped
 abbrev pub StopsAtAsks : Numbers → List Plan → ℕ → RunAtHub → RunAtHub → Type 0

@@ -14,7 +14,7 @@ ghost use Rattle.env_loop.specs.Recording.{AddonStates, states_of};
 ghost use Rattle.env_loop.specs.RecordedRuns.{pending_at_hub, FitsHub};
 ghost use Rattle.env_loop.specs.FollowedRuns.{RunGoesOn, GoesOnAt};
 ghost use Rattle.env_loop.specs.Turns.{event_turn, needs_hub, hub_event, IfCut, Awaits};
-ghost use Rattle.env_loop.specs.Bursts.{asks_no_more, silent_end, is_of_hub as is_for_hub, comes_to_hub, made_by, AddsEntriesOf, IsBurst, NothingPending, TurnsOn, StopsAtAsks};
+ghost use Rattle.env_loop.specs.Bursts.{asks_no_more, silent_end, is_of_hub as is_for_hub, hub_is_next, made_by, AddsEntriesOf, IsBurst, NothingPending, TurnsOn, StopsAtAsks};
 
 use crate::run::{EnvRun, FrameEnd, HubTurn};
 use crate::turn::{NextEvent, is_of_hub, next_event};
@@ -36,8 +36,8 @@ pub struct Burst {
 impl EnvRun {
     /// Whether the next event is the hub's, whatever an addon may ask. It is where something is pending at the hub; where the innermost frame is that of
     /// one of the hub's duties and makes no ask more; and where no frame stands and the environment decides no event alone but the loop's end.
-    pub fn comes_to_hub(&self) -> bool
-        ensures { result ≡ comes_to_hub self.now }
+    pub fn hub_is_next(&self) -> bool
+        ensures { result ≡ hub_is_next self.now }
     {
         if self.pending_at_hub() {
             return true;
@@ -77,7 +77,7 @@ impl EnvRun {
             let after = states_of (λ b. regs b) (λ b. seen b) addons.new.items in
             StopsAtAsks N.numbers (map (λ b. plan b) addons.old.items) result.made
             (record { run = self.old; hub = hub.old; addons = before }) (record { run = self.new; hub = hub.new; addons = after }) }
-        ensures stops { result.made < most → (comes_to_hub self.new ≡ false) ⊎ (result.last ≢ HubTurn.Made) }
+        ensures stops { result.made < most → (hub_is_next self.new ≡ false) ⊎ (result.last ≢ HubTurn.Made) }
         ensures all { result.made ≡ most → result.last ≡ HubTurn.Made }
         ensures paid { result.last ≡ HubTurn.Made → (1 ≤ result.made) × NothingPending self.new }
 
@@ -91,7 +91,7 @@ impl EnvRun {
 
         // There is nothing to do only where nothing is pending, the next event is the hub's, and no event is next there.
         ensures nothing { result.last ≡ HubTurn.Nothing
-            → (pending_at_hub self.new ≡ false) × (comes_to_hub self.new ≡ true) × (hub_event self.new.core.env hub.new.hub ≡ None) }
+            → (pending_at_hub self.new ≡ false) × (hub_is_next self.new ≡ true) × (hub_event self.new.core.env hub.new.hub ≡ None) }
 
         // A run that was followed goes on, over the history as it is then. It fits with the hub, and the journal, the addons and the limit stay. The
         // addons that are no addons of the script keep their registers, and all keep them where no entry was made.
@@ -139,15 +139,15 @@ impl EnvRun {
             TurnsOn N.numbers (map (λ b. plan b) addons.old.items) result.made
             (record { run = self.old; hub = hub.old; addons = before }) (record { run = self.new; hub = hub.new; addons = after }) }
         ensures few { result.made ≤ most }
-        ensures stops { result.made < most → (comes_to_hub self.new ≡ false) ⊎ (result.last ≢ HubTurn.Made) }
+        ensures stops { result.made < most → (hub_is_next self.new ≡ false) ⊎ (result.last ≢ HubTurn.Made) }
         ensures all { result.made ≡ most → result.last ≡ HubTurn.Made }
         ensures paid { result.last ≡ HubTurn.Made → NothingPending self.new }
         ensures uncut { IfCut result.last (λ _. ⊥) }
         ensures nothing { result.last ≡ HubTurn.Nothing
-            → (pending_at_hub self.new ≡ false) × (comes_to_hub self.new ≡ true) × (hub_event self.new.core.env hub.new.hub ≡ None) }
+            → (pending_at_hub self.new ≡ false) × (hub_is_next self.new ≡ true) × (hub_event self.new.core.env hub.new.hub ≡ None) }
     {
         for made in 0..most {
-            if !self.comes_to_hub() {
+            if !self.hub_is_next() {
                 return Burst {
                     made,
                     last: HubTurn::Made,
@@ -170,7 +170,7 @@ impl EnvRun {
         hub: &mut HubState<J, N>,
         addons: &mut Vec<Box<dyn Addon>>,
     ) -> HubTurn
-        requires comes { comes_to_hub self.old ≡ true }
+        requires comes { hub_is_next self.old ≡ true }
         requires paid { NothingPending self.old }
         requires fits { FitsHub self.old hub.old }
         requires enough { self.old.core.env.addons ≤ length addons.old.items }
@@ -181,7 +181,7 @@ impl EnvRun {
         ensures paid { result ≡ HubTurn.Made → NothingPending self.new }
         ensures uncut { IfCut result (λ _. ⊥) }
         ensures nothing { result ≡ HubTurn.Nothing
-            → (pending_at_hub self.new ≡ false) × (comes_to_hub self.new ≡ true) × (hub_event self.new.core.env hub.new.hub ≡ None) }
+            → (pending_at_hub self.new ≡ false) × (hub_is_next self.new ≡ true) × (hub_event self.new.core.env hub.new.hub ≡ None) }
     {
         self.owe_end();
         self.hub_turn(hub, addons)
@@ -189,7 +189,7 @@ impl EnvRun {
 
     /// The end of the innermost frame comes to be pending at the hub, where the next event is the hub's and a frame stands.
     fn owe_end(&mut self)
-        requires comes { comes_to_hub self.old ≡ true }
+        requires comes { hub_is_next self.old ≡ true }
         requires paid { NothingPending self.old }
         ensures needs { needs_hub self.new }
         ensures core { self.new.core ≡ self.old.core }

@@ -1,6 +1,6 @@
 use Rattle.std.proofs.Common.{◌≡◌, ◌≢◌, ◌∙◌, ◌+◌, true, arith, rules, refl, ap}
 use Rattle.addon_trait.proofs.SamePlans.{plans-none, plans-then}
-use Rattle.env_loop.specs.Bursts.{made_by, comes_to_hub}
+use Rattle.env_loop.specs.Bursts.{made_by, hub_is_next}
 use Rattle.env_loop.specs.declared.run.HubTurn.{HubTurn}
 use Rattle.env_loop.specs.declared.run.HubTurn.TheVariants as turn
 use Rattle.env_loop.proofs.Bursts.{no-turn, turns-then, none-more, on-more, on-idle}
@@ -39,7 +39,7 @@ loop-made-preserved g c =
     let i = c.loop-made.invariant in
     let t = c.silent_turn-last.ensures in
     let made : c.silent_turn-last.result ≡ turn.Made = search rules in
-    let comes : comes_to_hub c.loop-made.self ≡ true = search rules in
+    let comes : hub_is_next c.loop-made.self ≡ true = search rules in
     record {
       plans = plans-then _ _ _ _ i.plans t.plans;
       on = on-more g.N.Naming.numbers _ _ c.silent_turn-last.result c.loop-made.made (c.loop-made.made + 1) _ _ _ i.plans.same refl made i.on comes t.burst;
