@@ -44,7 +44,7 @@ use Rattle.shared_hub.specs.HubStates.{HubSeen, AddsEntry, hub_room}
 use Rattle.shared_hub.specs.KeptHubs.{IsLedHub}
 use Rattle.shared_hub.specs.SharedTries.{given_by}
 use Rattle.env_loop.specs.FollowedRuns.{Asks, IsRecordedRun, taken_in, HasNumbers}
-use Rattle.env_loop.specs.HubTurns.{IsHubTurn}
+use Rattle.env_loop.specs.HubTurns.{IsMadeHubTurn}
 use Rattle.env_loop.specs.Recording.{AddonStates, machine_of, HasSeen, IsOf, IsRecorded, RecordsOwn}
 use Rattle.env_loop.specs.RecordedRuns.{Run, IsSoundEnvironment, IsAwaited, IsPendingEnd, IsRunning, pending_at_hub, FitsHub}
 use Rattle.env_loop.specs.Turns.{ReplyIsNoted, OnlyInnermostChanges, hub_duty_info_of, hub_event}
@@ -177,7 +177,7 @@ turn-answered : (n : Numbers) (plans : List Plan) (run : Run) (c : SharedCall) (
     → IsRunning run.core run.begun run.ending → FitsHub run before → run.core.awaited ≡ Some c → AddsEntry before (handed_entry c r) after
     → KeepsStanding before.hub after.hub
     → is_full (hub_room n before) c.call ≡ false → ReplyIsNoted plans all.registers run.core.env.frames r now.registers → now.seen ≡ all.seen
-    → IsHubTurn n plans run before all (record { core = after_answer c r (length after.history) run.core; begun = run.begun; ending = None }) after now
+    → IsMadeHubTurn n plans run before all (record { core = after_answer c r (length after.history) run.core; begun = run.begun; ending = None }) after now
 turn-answered n plans run c r before after all now led running fits awaited adds keeps room told unseen =
     let w : IsAwaited run.core.env c = awaited-stands run c running awaited in
     let new : Run = record { core = after_answer c r (length after.history) run.core; begun = run.begun; ending = None } in
@@ -221,7 +221,7 @@ pub answered-turn : (n : Numbers) (plans : List Plan) (run old : Run) (core : Co
     → AddsEntry before (handed_entry c r) after → KeepsStanding before.hub after.hub → is_full (hub_room n before) c.call ≡ false
     → IfSome run.core.awaited (λ x. core ≡ after_answer x r position run.core) → position ≡ length after.history
     → ReplyIsNoted plans all.registers run.core.env.frames r now.registers → now.seen ≡ all.seen
-    → IsHubTurn n plans old before all (record { core = core; begun = run.begun; ending = run.ending }) after now
+    → IsMadeHubTurn n plans old before all (record { core = core; begun = run.begun; ending = run.ending }) after now
 answered-turn n plans run old core c r before after all now position view running led fits awaited adds keeps room settled noted told unseen =
     let here : run.core.awaited ≡ Some c = ap (λ (x : Run). x.core.awaited) view ∙ awaited in
     let is : core ≡ after_answer c r position run.core = subst (λ o. IfSome o (λ x. core ≡ after_answer x r position run.core)) here settled in
@@ -230,6 +230,6 @@ answered-turn n plans run old core c r before after all now position view runnin
     ap (λ k. record { core = after_answer c r k run.core; begun = run.begun; ending = None }) (sym noted)
     ∙ ap (λ k. record { core = k; begun = run.begun; ending = None }) (sym is)
     ∙ ap (λ o. record { core = core; begun = run.begun; ending = o }) (sym (awaited-none-ending run c running here)) in
-    subst (λ (x : Run). IsHubTurn n plans x before all (record { core = core; begun = run.begun; ending = run.ending }) after now) view
-    (subst (λ (x : Run). IsHubTurn n plans run before all x after now) new
+    subst (λ (x : Run). IsMadeHubTurn n plans x before all (record { core = core; begun = run.begun; ending = run.ending }) after now) view
+    (subst (λ (x : Run). IsMadeHubTurn n plans run before all x after now) new
     (turn-answered n plans run c r before after all now led running (subst (λ (x : Run). FitsHub x before) (sym view) fits) here adds keeps room told unseen))

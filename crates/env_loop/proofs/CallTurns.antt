@@ -39,8 +39,8 @@ use Rattle.env_core.specs.Sharing.{awaiting}
 use Rattle.env_loop.specs.declared.run.FrameEnd.{FrameEnd}
 use Rattle.env_loop.specs.FollowedRuns.{Asks}
 use Rattle.env_loop.specs.Recording.{AddonStates, machine_of, HasSeen, IsRecorded, Continues}
-use Rattle.env_loop.specs.RecordedRuns.{Run, IsSoundEnvironment, Holds, IsRunning}
-use Rattle.env_loop.specs.Turns.{ReplyIsNoted, OnlyInnermostChanges, IsTurn, BecamePending}
+use Rattle.env_loop.specs.RecordedRuns.{Run, IsSoundEnvironment, HoldsDuty, IsRunning}
+use Rattle.env_loop.specs.Turns.{ReplyIsNoted, OnlyInnermostChanges, IsMadeTurn, BecamePending}
 use Rattle.env_loop.proofs.LocalGoing.{if_some-none, local-goes, stages-same}
 use Rattle.env_loop.proofs.MadeTurns.{running-idle, states-same, made-turn}
 use Rattle.env_loop.proofs.Recordings.{own-grown}
@@ -87,7 +87,7 @@ asked-turn : {ps : List Plan} {old : Run} {all : AddonStates} {f : Frame} {a : A
     → drop old.core.env.addons now.registers ≡ drop old.core.env.addons all.registers
     → OnlyInnermostChanges old.core.env.frames change.after.frames all.registers now.registers → now.seen ≡ all.seen
     → Continues ps old.core all (after_change change old.core) now
-    → IsTurn ps old all (record old { core = new }) now
+    → IsMadeTurn ps old all (record old { core = new }) now
 asked-turn {ps} {old} {all} {f} {a} i c n change new now idle unended same made others untouched unseen goes =
     let e = old.core.env in
     let k : KeepsButFrames e (asked_change e c n).after (need c) = asked_change-fits e c n in
@@ -105,7 +105,7 @@ pub replied-turn : {ps : List Plan} {old : Run} {all : AddonStates} {f : Frame} 
     → (c : Call) (r : Reply) (new : Core) (now : AddonStates) → old.core.awaited ≡ None → old.ending ≡ None
     → f.asks < most_asks → ask.Do c ≡ a → is_shared c ≡ false → Replies old.core c r new → OthersStay all.registers now.registers f.addon
     → IfSome (plan_of ps f.addon) (λ p. registers_of now.registers f.addon ≡ registers_after_reply p (registers_of all.registers f.addon) f.entry f.asks r)
-    → now.seen ≡ all.seen → IsTurn ps old all (record old { core = new }) now
+    → now.seen ≡ all.seen → IsMadeTurn ps old all (record old { core = new }) now
 replied-turn {ps} {old} {all} {f} {a} i c r new now idle unended below is local reply others keeps same =
     let e = old.core.env in
     let k : ℕ = number_of r.out in
@@ -121,7 +121,7 @@ replied-turn {ps} {old} {all} {f} {a} i c r new now idle unended below is local 
 asked-running : (core : Core) {ps : List Plan} {all : Registers} {f : Frame} {a : Ask} → InFrame ps core.env all f a
     → (c : Call) (n : ℕ) (change : Change) (new : Core) (begun : Option DueInfo) (ending : Option FrameEnd) → core.awaited ≡ None → ending ≡ None
     → f.asks < most_asks
-    → asked_change core.env c n ≡ change → new ≡ after_change change core → Holds core.env.frames begun → IsRunning new begun ending
+    → asked_change core.env c n ≡ change → new ≡ after_change change core → HoldsDuty core.env.frames begun → IsRunning new begun ending
 asked-running core {ps} {all} {f} {a} i c n change new begun ending idle unended below same made held =
     let here : new ≡ after_change (asked_change core.env c n) core = made ∙ ap (λ x. after_change x core) (sym same) in
     let S : Core → Type 0 = λ x. IsSoundEnvironment x.env in
@@ -130,7 +130,7 @@ asked-running core {ps} {all} {f} {a} i c n change new begun ending idle unended
 
 pub replied-running : (core : Core) {ps : List Plan} {all : Registers} {f : Frame} {a : Ask} → InFrame ps core.env all f a
     → (c : Call) (r : Reply) (new : Core) (begun : Option DueInfo) (ending : Option FrameEnd) → core.awaited ≡ None → ending ≡ None → f.asks < most_asks
-    → Replies core c r new → Holds core.env.frames begun → IsRunning new begun ending
+    → Replies core c r new → HoldsDuty core.env.frames begun → IsRunning new begun ending
 replied-running core {ps} {all} {f} {a} i c r new begun ending idle unended below reply held =
     let k : ℕ = number_of r.out in
     asked-running core i c k (call_change core.env c k) new begun ending idle unended below
@@ -171,7 +171,7 @@ entering-turn : {ps : List Plan} {old : Run} {all : AddonStates} {f : Frame} {a 
     → ask.Do (call.CallFunction receiver g args) ≡ a
     → EntersBy old.core receiver g args target gifts new
     → old.core.env.addons ≤ length all.registers → now.registers ≡ with_addon_gifts all.registers target.addon gifts → now.seen ≡ all.seen
-    → IsTurn ps old all (record old { core = new }) now
+    → IsMadeTurn ps old all (record old { core = new }) now
 entering-turn {ps} {old} {all} {f} {a} i receiver g args target gifts new now idle unended below is enters enough given same =
     let e = old.core.env in
     let at : ℕ = (callee_of e.heap g).addon in
@@ -191,7 +191,7 @@ entering-turn {ps} {old} {all} {f} {a} i receiver g args target gifts new now id
 pub entered-turn : {ps : List Plan} {old : Run} {all : AddonStates} {f : Frame} {a : Ask} → InFrame ps old.core.env all.registers f a
     → (c : Call) (target : Target) (gifts : List ℕ) (new : Core) (now : AddonStates) → old.core.awaited ≡ None → old.ending ≡ None
     → f.asks < most_asks → ask.Do c ≡ a → Enters old.core c target gifts new → old.core.env.addons ≤ length all.registers
-    → now.registers ≡ with_addon_gifts all.registers target.addon gifts → now.seen ≡ all.seen → IsTurn ps old all (record old { core = new }) now
+    → now.registers ≡ with_addon_gifts all.registers target.addon gifts → now.seen ≡ all.seen → IsMadeTurn ps old all (record old { core = new }) now
 entered-turn i (call.CallFunction receiver g args) target gifts new now idle unended below is enters enough given same =
     entering-turn i receiver g args target gifts new now idle unended below is enters enough given same
 entered-turn i c target gifts new now idle unended below is enters enough given same = absurd enters
@@ -199,7 +199,7 @@ entered-turn i c target gifts new now idle unended below is enters enough given 
 pub entered-running : (core : Core) {ps : List Plan} {all : Registers} {f : Frame} {a : Ask} → InFrame ps core.env all f a
     → (c : Call) (target : Target) (gifts : List ℕ) (new : Core) (begun : Option DueInfo) (ending : Option FrameEnd) → core.awaited ≡ None → ending ≡ None
     → f.asks < most_asks
-    → Enters core c target gifts new → Holds core.env.frames begun → IsRunning new begun ending
+    → Enters core c target gifts new → HoldsDuty core.env.frames begun → IsRunning new begun ending
 entered-running core {ps} {all} {f} {a} i (call.CallFunction receiver g args) target gifts new begun ending idle unended below enters held =
     asked-running core i (call.CallFunction receiver g args) 0 (enter_change receiver g args core.env) new begun ending idle unended below
     (asked_change-enter_change core.env receiver g args 0 enters.called.accepted) enters.after held
@@ -284,7 +284,7 @@ shared-more {ps} {old} {all} {f} {a} i c h new now unended is handed registers s
 
 -- the run keeps that it awaits the answer
 shared-awaits : (core : Core) {ps : List Plan} {all : Registers} {f : Frame} {a : Ask} → InFrame ps core.env all f a → (c : Call) (begun : Option DueInfo)
-    (ending : Option FrameEnd) → f.asks < most_asks → is_shared c ≡ true → ending ≡ None → Holds core.env.frames begun
+    (ending : Option FrameEnd) → f.asks < most_asks → is_shared c ≡ true → ending ≡ None → HoldsDuty core.env.frames begun
     → IsRunning (awaiting (shared_call_of core.env c) core) begun ending
 shared-awaits core {ps} {all} {f} {a} i c begun ending below shared unended held = record {
   sound = i.sound;
@@ -296,7 +296,7 @@ shared-awaits core {ps} {all} {f} {a} i c begun ending below shared unended held
 
 pub shared-running : (core : Core) {ps : List Plan} {all : Registers} {f : Frame} {a : Ask} → InFrame ps core.env all f a
     → (c : Call) (h : SharedCall) (new : Core) (begun : Option DueInfo) (ending : Option FrameEnd) → f.asks < most_asks → is_shared c ≡ true → ending ≡ None
-    → (h ≡ shared_call_of core.env c) × (new ≡ awaiting h core) → Holds core.env.frames begun → IsRunning new begun ending
+    → (h ≡ shared_call_of core.env c) × (new ≡ awaiting h core) → HoldsDuty core.env.frames begun → IsRunning new begun ending
 shared-running core {ps} {all} {f} {a} i c h new begun ending below shared unended handed held =
     let N : Core → Type 0 = λ x. IsRunning x begun ending in
     subst N (sym (handed.1 ∙ ap (λ x. awaiting x core) handed.0)) (shared-awaits core i c begun ending below shared unended held)

@@ -32,7 +32,7 @@ use Rattle.env_core.specs.Core.{Core}
 use Rattle.env_core.specs.Sharing.{after_hub_begin}
 use Rattle.shared_hub.specs.HubStates.{HubSeen, AddsEntry}
 use Rattle.shared_hub.specs.declared.naming.Numbers.{Numbers}
-use Rattle.env_loop.specs.HubTurns.{IsHubTurn, DeliversAt}
+use Rattle.env_loop.specs.HubTurns.{IsMadeHubTurn, DeliversAt}
 use Rattle.env_loop.specs.RecordedRuns.{Run, pending_at_hub, IsSoundEnvironment, IsRunning, FitsHub}
 use Rattle.env_loop.specs.Recording.{AddonStates, machine_of}
 use Rattle.env_loop.specs.Turns.{hub_event}
@@ -121,7 +121,7 @@ pub record DeliversNext (run : Run) (before after : HubSeen) (d : DueInfo) : Typ
 turn-of_delivery : (n : Numbers) (plans : List Plan) (run new : Run) (before after : HubSeen) (all now : AddonStates) (d : DueInfo) → AtHub n run before
     → hub_event run.core.env before.hub ≡ Some (Moves (Delivers d)) → hub_move before.hub ≡ Some (Delivers d) → AddsEntry before (delivery_entry d) after
     → run.core.env.addons ≤ length all.registers → run.core.env.addons ≤ length all.seen → DeliversAt d (length after.history) run all new now
-    → IsHubTurn n plans run before all new after now
+    → IsMadeHubTurn n plans run before all new after now
 turn-of_delivery n plans run new before after all now d at next move adds registers seen delivers =
     let h : Hub = before.hub in
     let x : Entry = delivery_entry d in
@@ -135,7 +135,7 @@ turn-of_delivery n plans run new before after all now d at next move adds regist
       owned = subst (λ k. IsOwnedHub run.core.env.addons k) (sym adds.hub) (event-owned run.core.env.addons h x host.Begin at.fits.owned);
       noted = omega arith;
     } in
-    subst (λ r. IsHubTurn n plans run before all r after now) (sym delivers.run)
+    subst (λ r. IsMadeHubTurn n plans run before all r after now) (sym delivers.run)
     (event-turn n run before after all now (Moves (Delivers d)) x (after_delivery d run.core.env) (Some d) (Some d) at.rest at.led adds
     (delivery-event run.core h d next move)
     (delivery-takes run.core.env.addons (length after.history) run new all now d there registers seen delivers) plans refl fits
@@ -145,10 +145,10 @@ turn-of_delivery n plans run new before after all now d at next move adds regist
 -- the same, where the run is known as its parts
 pub delivery-turn : (n : Numbers) (plans : List Plan) (run mid old new : Run) (before after : HubSeen) (all now : AddonStates) (d : DueInfo)
     → run ≡ old → AtHub n run before → DeliversNext run before after d → old.core.env.addons ≤ length all.registers → old.core.env.addons ≤ length all.seen
-    → mid ≡ old → DeliversAt d (length after.history) mid all new now → IsHubTurn n plans old before all new after now
+    → mid ≡ old → DeliversAt d (length after.history) mid all new now → IsMadeHubTurn n plans old before all new after now
 delivery-turn n plans run mid old new before after all now d same at b registers seen still delivers =
     let began : DeliversAt d (length after.history) old all new now = subst (λ r. DeliversAt d (length after.history) r all new now) still delivers in
-    subst (λ r. IsHubTurn n plans r before all new after now) same
+    subst (λ r. IsMadeHubTurn n plans r before all new after now) same
     (turn-of_delivery n plans run new before after all now d at b.next b.move b.adds
     (subst (λ (r : Run). r.core.env.addons ≤ length all.registers) (sym same) registers)
     (subst (λ (r : Run). r.core.env.addons ≤ length all.seen) (sym same) seen)

@@ -44,8 +44,8 @@ use Rattle.env_loop.specs.declared.turn.LocalTurn.{LocalTurn}
 use Rattle.env_loop.specs.declared.turn.LocalTurn.TheVariants as turn
 use Rattle.env_loop.specs.FollowedRuns.{Asks, StoppedAtHub, MayEndSo, IsRecordedRun}
 use Rattle.env_loop.specs.Recording.{AddonStates, machine_of, HasSeen, IsOf, IsRecorded, RecordsOwn}
-use Rattle.env_loop.specs.RecordedRuns.{Run, IsSoundEnvironment, Holds, IsRunning, cut_at}
-use Rattle.env_loop.specs.Turns.{ReplyIsNoted, OnlyInnermostChanges, IsTurn, BecamePending, MatchTurn, turn_after, EndedNow, EndedOrPending}
+use Rattle.env_loop.specs.RecordedRuns.{Run, IsSoundEnvironment, HoldsDuty, IsRunning, cut_at}
+use Rattle.env_loop.specs.Turns.{ReplyIsNoted, OnlyInnermostChanges, IsMadeTurn, BecamePending, TurnCameTo, turn_after, EndedNow, EndedOrPending}
 use Rattle.env_loop.proofs.LocalGoing.{if_some-none, stages-same}
 use Rattle.env_loop.proofs.MadeTurns.{none-there, running-idle, states-same, turn-made, turn-owes, made-turn}
 use Rattle.env_loop.proofs.Recordings.{local-grown}
@@ -150,7 +150,7 @@ pub record MayEndInScripts (ps : List Plan) (old : Run) (all : AddonStates) (v :
 -- IT ENDS
 ended-turn : (ps : List Plan) (old new : Run) (all now : AddonStates) (v : Option HandleId) (how : FrameEnd) → MayEndInScripts ps old all v how
     → is_hub_duty (duty_of old.core.env.frames) ≡ false → EndedNow ps all.registers old v how new now.registers → now.seen ≡ all.seen
-    → IsTurn ps old all new now
+    → IsMadeTurn ps old all new now
 ended-turn ps old new all now v how i local here same =
     let cut : Option Why = cut_at how in
     let e : Environment = old.core.env in
@@ -221,10 +221,10 @@ pub ends-turn : (b : Bool) (ps : List Plan) (old new : Run) (all now : AddonStat
     → MayEndInScripts ps old all v how
     → b ≡ is_hub_duty (duty_of old.core.env.frames) → EndedOrPending b ps all.registers old v how new now.registers → now.seen ≡ all.seen
     → r ≡ turn_after new old.core.env
-    → MatchTurn r ps old all new now
+    → TurnCameTo r ps old all new now
 ends-turn false ps old new all now v how r i local here same is =
     let made : r ≡ turn.Made = is ∙ turn-made new old.core.env (ap (λ (c : Core). c.awaited) here.ended ∙ i.idle) here.ending i.some in
-    let P : LocalTurn → Type 0 = λ x. MatchTurn x ps old all new now in
+    let P : LocalTurn → Type 0 = λ x. TurnCameTo x ps old all new now in
     subst P (sym made) (ended-turn ps old new all now v how i (sym local) here same)
 ends-turn true ps old new all now v how r i hub owed same is =
     let states : now ≡ all = states-same all now owed.1 same in
@@ -232,7 +232,7 @@ ends-turn true ps old new all now v how r i hub owed same is =
     let N : Run → Type 0 = λ x. BecamePending ps old all x now in
     let A : AddonStates → Type 0 = λ x. BecamePending ps old all (record old { ending = Some how }) x in
     let more : BecamePending ps old all new now = subst N (sym owed.0) (subst A (sym states) made) in
-    let P : LocalTurn → Type 0 = λ x. MatchTurn x ps old all new now in
+    let P : LocalTurn → Type 0 = λ x. TurnCameTo x ps old all new now in
     subst P (sym (is ∙ turn-owes new old.core.env more.owes)) (inl more)
 
 -- the same where the run, the plans and the registers are those of before
@@ -240,7 +240,7 @@ pub ends-turn-at : (b : Bool) (ps qs : List Plan) (old mid new : Run) (all : Add
     (how : FrameEnd) (r : LocalTurn)
     → MayEndInScripts ps old all v how → b ≡ is_hub_duty (duty_of old.core.env.frames) → mid ≡ old → qs ≡ ps → regs ≡ all.registers
     → EndedOrPending b qs regs mid v how new now.registers
-    → now.seen ≡ all.seen → r ≡ turn_after new mid.core.env → MatchTurn r ps old all new now
+    → now.seen ≡ all.seen → r ≡ turn_after new mid.core.env → TurnCameTo r ps old all new now
 ends-turn-at b ps qs old mid new all regs now v how r i is same plans registers here unseen result =
     let M : Run → Type 0 = λ x. EndedOrPending b ps all.registers x v how new now.registers in
     let Q : List Plan → Type 0 = λ x. EndedOrPending b x all.registers mid v how new now.registers in
@@ -267,13 +267,13 @@ frames-left core new v cut made = ap (λ (c : Core). c.env.frames) made ∙ (end
 
 -- a frame that no duty began takes none away
 plain-left : (core new : Core) (v : Option HandleId) (cut : Option Why) (begun : Option DueInfo) → duty_of core.env.frames ≡ None
-    → new ≡ after_change (end_change v cut core.env) core → Holds core.env.frames begun → Holds new.env.frames begun
+    → new ≡ after_change (end_change v cut core.env) core → HoldsDuty core.env.frames begun → HoldsDuty new.env.frames begun
 plain-left core new v cut begun plain made held =
     ap duties_of (frames-left core new v cut made) ∙ duties-plain core.env.frames plain ∙ held
 
 pub plain-running : (core new : Core) (v : Option HandleId) (cut : Option Why) (begun : Option DueInfo) (ending : Option FrameEnd) → IsSoundEnvironment core.env
     → core.env.frames ≢ []
-    → core.awaited ≡ None → is_some (duty_of core.env.frames) ≡ false → new ≡ after_change (end_change v cut core.env) core → Holds core.env.frames begun
+    → core.awaited ≡ None → is_some (duty_of core.env.frames) ≡ false → new ≡ after_change (end_change v cut core.env) core → HoldsDuty core.env.frames begun
     → ending ≡ None
     → IsRunning new begun ending
 plain-running core new v cut begun ending sound some idle plain made held unended =
@@ -293,7 +293,7 @@ pub duty-running : (core new : Core) (cut : Option Why) (begun : Option DueInfo)
     → IsRunning new begun ending
 duty-running core new cut begun ending sound some idle has made spent unended =
     let S : Core → Type 0 = λ c. IsSoundEnvironment c.env in
-    let H : Option DueInfo → Type 0 = λ o. Holds new.env.frames o in
+    let H : Option DueInfo → Type 0 = λ o. HoldsDuty new.env.frames o in
     let none : duties_of new.env.frames ≡ [] =
     ap duties_of (frames-left core new None cut made ∙ left-alone core.env.frames (duty_of core.env.frames) refl has sound.nested) in
     running-idle new begun ending (subst S (sym made) (sound-ended core.env sound some None cut)) (subst H (sym spent) none)

@@ -32,7 +32,7 @@ use Rattle.shared_hub.specs.HubStates.{HubSeen, AddsEntry}
 use Rattle.shared_hub.specs.KeptHubs.{IsLedHub}
 use Rattle.shared_hub.specs.declared.naming.Numbers.{Numbers}
 use Rattle.env_loop.specs.FollowedRuns.{IsRecordedRun, IsFollowed, taken_in, HasNumbers, GoesOnAt}
-use Rattle.env_loop.specs.HubTurns.{SpentAtFinals, IsHubTurn, MatchHubTurn}
+use Rattle.env_loop.specs.HubTurns.{SpentAtFinals, IsMadeHubTurn, HubTurnCameTo}
 use Rattle.env_loop.specs.RecordedRuns.{Run, pending_at_hub, IsRunning, FitsHub}
 use Rattle.env_loop.specs.Recording.{AddonStates, machine_of, AgreesWith, HasSeen, IsOf, IsRecorded, RecordsOwn}
 use Rattle.env_loop.specs.SharedEntries.{shared_step}
@@ -219,7 +219,7 @@ module _ (n : Numbers) (old : Run) (before after : HubSeen) (all now : AddonStat
 
   pub event-turn : (plans : List Plan) → e.addons ≡ old.core.env.addons → FitsHub (after_hub_event old e (length after.history) begun) after
       → OnlyInnermostChanges old.core.env.frames e.frames all.registers now.registers
-      → IsHubTurn n plans old before all (after_hub_event old e (length after.history) begun) after now
+      → IsMadeHubTurn n plans old before all (after_hub_event old e (length after.history) begun) after now
   event-turn plans addons fits untouched =
       let next : begins_at_hub old before.hub ≡ told =
       ap (λ b. cond b None (hub_duty_info_of (hub_event old.core.env before.hub))) rest.unowed ∙ ap hub_duty_info_of event.next ∙ event.begins in
@@ -243,7 +243,7 @@ module _ (n : Numbers) (old : Run) (before after : HubSeen) (all now : AddonStat
 -- a run that was followed goes on
 pub turn-goes : (n : Numbers) (t : HubTurn) (plans : List Plan) (old : Run) (before : HubSeen) (all : AddonStates) (new : Run) (after : HubSeen)
     (now : AddonStates)
-    → MatchHubTurn n t plans old before all new after now → GoesOnAt n plans old before.history all new after.history now
+    → HubTurnCameTo n t plans old before all new after now → GoesOnAt n plans old before.history all new after.history now
 turn-goes n hub_turn.Made plans old before all new after now m = m.goes
 turn-goes n (hub_turn.Cut w) plans old before all new after now m = m.goes
 turn-goes n hub_turn.Nothing plans old before all new after now m = λ s firsts numbers of f.

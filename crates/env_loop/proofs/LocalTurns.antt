@@ -19,7 +19,7 @@ use Rattle.env_loop.specs.declared.turn.LocalTurn.TheVariants as turn
 use Rattle.env_loop.specs.Recording.{AddonStates, HasSeen}
 use Rattle.env_loop.specs.RecordedRuns.{Run, IsSoundEnvironment, IsAwaited, IsPendingEnd, IsRunning, hub_begun, pending_at_hub, FitsHub, OneMore}
 use Rattle.env_loop.specs.FollowedRuns.{IsFollowed, RunGoesOn}
-use Rattle.env_loop.specs.Turns.{event_turn, turn_at, turn_after, next_ticket_info, OnlyInnermostChanges, IsTurn, OnlyPendingChanged, BecamePending, IsSame, MatchTurn, EndedBy, EndedOrPending}
+use Rattle.env_loop.specs.Turns.{event_turn, turn_at, turn_after, next_ticket_info, OnlyInnermostChanges, IsMadeTurn, OnlyPendingChanged, BecamePending, ChangedNothing, TurnCameTo, EndedBy, EndedOrPending}
 use Rattle.env_loop.proofs.CutTurns.{unowed-local}
 use Rattle.env_loop.proofs.LocalGoing.{stages-same, fits-local}
 use Rattle.env_loop.proofs.SeenLists.{begins-none, seen-stays}
@@ -123,7 +123,7 @@ pub record TurnTells (t : LocalTurn) (ps : List Plan) (old : Run) (all : AddonSt
 unowed-made : (o : Option SharedCall) (q : Option FrameEnd) (b : Bool) → o ≡ None → q ≡ None → (is_some o || (is_some q && b)) ≡ false
 unowed-made o q b idle unended = rw (idle, unended) refl
 
-tells-made : (ps : List Plan) (old new : Run) (all now : AddonStates) → IsTurn ps old all new now → TurnTells turn.Made ps old all new now
+tells-made : (ps : List Plan) (old new : Run) (all now : AddonStates) → IsMadeTurn ps old all new now → TurnTells turn.Made ps old all new now
 tells-made ps old new all now m =
     let unowed : pending_at_hub new ≡ false = unowed-made new.core.awaited new.ending _ m.kept.awaited m.kept.ending in
     record {
@@ -161,7 +161,7 @@ module _ (t : LocalTurn) (ps : List Plan) (old new : Run) (all now : AddonStates
     untouched = λ is. absurd (unmade is);
   }
 
-  tells-same : IsSame old all new now → TurnTells t ps old all new now
+  tells-same : ChangedNothing old all new now → TurnTells t ps old all new now
   tells-same s =
       let F : HubSeen → Run → Type 0 = λ h r. FitsHub r h in
       record {
@@ -183,7 +183,7 @@ module _ (t : LocalTurn) (ps : List Plan) (old new : Run) (all now : AddonStates
         untouched = λ is. absurd (unmade is);
       }
 
-pub turn-tells : (t : LocalTurn) (ps : List Plan) (old new : Run) (all now : AddonStates) → MatchTurn t ps old all new now
+pub turn-tells : (t : LocalTurn) (ps : List Plan) (old new : Run) (all now : AddonStates) → TurnCameTo t ps old all new now
     → (t ≢ turn.Made → next_ticket_info old.core.env ≡ None)
     → TurnTells t ps old all new now
 turn-tells turn.Made ps old new all now m unbegun = tells-made ps old new all now m

@@ -13,8 +13,8 @@ use Rattle.env_loop.specs.declared.run.FrameEnd.{FrameEnd}
 use Rattle.env_loop.specs.declared.turn.LocalTurn.TheVariants as turn
 use Rattle.env_loop.specs.FollowedRuns.{RunGoesOn}
 use Rattle.env_loop.specs.Recording.{AddonStates, HasSeen}
-use Rattle.env_loop.specs.RecordedRuns.{Run, IsSoundEnvironment, Holds, IsRunning, hub_begun, pending_at_hub}
-use Rattle.env_loop.specs.Turns.{turn_of, turn_after, next_ticket_info, OnlyInnermostChanges, IsTurn}
+use Rattle.env_loop.specs.RecordedRuns.{Run, IsSoundEnvironment, HoldsDuty, IsRunning, hub_begun, pending_at_hub}
+use Rattle.env_loop.specs.Turns.{turn_of, turn_after, next_ticket_info, OnlyInnermostChanges, IsMadeTurn}
 use Rattle.env_loop.proofs.LocalGoing.{if_some-none, KeepsStages, fits-local}
 
 -- what is not there is none
@@ -32,7 +32,7 @@ unowed-idle run unowed = none-there run.core.awaited (first-none (is_some run.co
 
 -- WHAT IS KEPT
 -- a run keeps what it has to, where nothing is pending
-pub running-idle : (core : Core) (begun : Option DueInfo) (ending : Option FrameEnd) → IsSoundEnvironment core.env → Holds core.env.frames begun
+pub running-idle : (core : Core) (begun : Option DueInfo) (ending : Option FrameEnd) → IsSoundEnvironment core.env → HoldsDuty core.env.frames begun
     → core.awaited ≡ None → ending ≡ None
     → IsRunning core begun ending
 running-idle core begun ending sound held idle unended = record {
@@ -74,7 +74,7 @@ pub made-turn : (ps : List Plan) (old new : Run) (all now : AddonStates) (change
     → OnlyInnermostChanges old.core.env.frames change.after.frames all.registers now.registers
     → HasSeen all.seen (option_to_list (next_ticket_info old.core.env)) now.seen
     → ((history : List Entry) → RunGoesOn ps old history all new history now)
-    → IsTurn ps old all new now
+    → IsMadeTurn ps old all new now
 made-turn ps old new all now change made idle unended begun addons stages others untouched seen goes =
     let U : Core → Type 0 = λ c. OnlyInnermostChanges old.core.env.frames c.env.frames all.registers now.registers in
     let K : Core → Type 0 = λ c. KeepsStages old.core.env.phase c.env.phase in

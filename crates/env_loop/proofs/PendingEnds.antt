@@ -42,7 +42,7 @@ use Rattle.shared_hub.specs.KeptHubs.{IsLedHub}
 use Rattle.env_loop.specs.declared.run.FrameEnd.{FrameEnd}
 use Rattle.env_loop.specs.declared.run.FrameEnd.TheVariants as end
 use Rattle.env_loop.specs.FollowedRuns.{Asks, MayEndSo, IsRecordedRun, taken_in, HasNumbers}
-use Rattle.env_loop.specs.HubTurns.{IsHubTurn}
+use Rattle.env_loop.specs.HubTurns.{IsMadeHubTurn}
 use Rattle.env_loop.specs.Recording.{AddonStates, machine_of, HasSeen, IsOf, IsRecorded, RecordsOwn}
 use Rattle.env_loop.specs.RecordedRuns.{Run, IsSoundEnvironment, IsRunning, cut_at, pending_at_hub, FitsHub}
 use Rattle.env_loop.specs.SharedEntries.{shared_step}
@@ -212,7 +212,7 @@ ended-fits run how before after fits adds keeps alone = record {
 turn-ended : (n : Numbers) (plans : List Plan) (run : Run) (how : FrameEnd) (before after : HubSeen) (all : AddonStates) → IsLedHub n before
     → IsSoundEnvironment run.core.env → IsHubFrame run.core.env.frames → FitsHub run before → run.core.awaited ≡ None → run.ending ≡ Some how
     → AddsEntry before (end_entry how run.core.env) after → KeepsStage before.hub after.hub → after.hub.standing ≡ None
-    → IsHubTurn n plans run before all (ended_run run how (length after.history)) after all
+    → IsMadeHubTurn n plans run before all (ended_run run how (length after.history)) after all
 turn-ended n plans run how before after all led sound f fits idle owed adds keeps alone =
     let new : Run = ended_run run how (length after.history) in
     let owes : pending_at_hub run ≡ true = ends-owed run.core.awaited run.ending (is_hub_duty (duty_of run.core.env.frames)) how owed f.ours in
@@ -266,7 +266,7 @@ module _ (run old : Run) (how : FrameEnd) (core : Core) (begun : Option DueInfo)
   pub ended-turn : (n : Numbers) (told : Out) (before after : HubSeen) → IsLedHub n before → FitsHub old before
       → told ≡ (end_change None cut run.core.env).entry.reply.out
       → AddsEntry before (host_entry host.End told) after → KeepsStage before.hub after.hub → after.hub.standing ≡ None → position ≡ length before.history + 1
-      → (plans : List Plan) (all : AddonStates) → IsHubTurn n plans old before all (record { core = core; begun = begun; ending = None }) after all
+      → (plans : List Plan) (all : AddonStates) → IsMadeHubTurn n plans old before all (record { core = core; begun = begun; ending = None }) after all
   ended-turn n told before after led fits tells adds keeps alone noted plans all =
       let longer : position ≡ length after.history = noted ∙ sym (ap length adds.history ∙ length-append before.history (one (host_entry host.End told))) in
       let same : told ≡ end_out (cut_at how) run.core.env.pending =
@@ -277,8 +277,8 @@ module _ (run old : Run) (how : FrameEnd) (core : Core) (begun : Option DueInfo)
       ap (λ k. ended_run run how k) (sym longer)
       ∙ ap (λ k. record { core = k; begun = None; ending = None }) is
       ∙ ap (λ b. record { core = core; begun = b; ending = None }) (sym taken) in
-      subst (λ (x : Run). IsHubTurn n plans x before all (record { core = core; begun = begun; ending = None }) after all) view
-      (subst (λ (x : Run). IsHubTurn n plans run before all x after all) new
+      subst (λ (x : Run). IsMadeHubTurn n plans x before all (record { core = core; begun = begun; ending = None }) after all) view
+      (subst (λ (x : Run). IsMadeHubTurn n plans run before all x after all) new
       (turn-ended n plans run how before after all led running.sound frame (subst (λ (x : Run). FitsHub x before) (sym view) fits) here
       (ap (λ (x : Run). x.ending) view ∙ owed)
       (subst (λ o. AddsEntry before (host_entry host.End o) after) same adds) keeps alone))

@@ -29,7 +29,7 @@ use Rattle.env_core.specs.Core.{Core, after_phase, at_position}
 use Rattle.env_core.specs.Sharing.{after_finish}
 use Rattle.shared_hub.specs.HubStates.{HubSeen, AddsEntry}
 use Rattle.shared_hub.specs.declared.naming.Numbers.{Numbers}
-use Rattle.env_loop.specs.HubTurns.{IsHubTurn}
+use Rattle.env_loop.specs.HubTurns.{IsMadeHubTurn}
 use Rattle.env_loop.specs.RecordedRuns.{Run, IsSoundEnvironment, IsRunning, FitsHub}
 use Rattle.env_loop.specs.Recording.{AddonStates}
 use Rattle.env_loop.specs.Turns.{hub_event, OnlyInnermostChanges}
@@ -223,9 +223,9 @@ module _ (n : Numbers) (run : Run) (before after : HubSeen) (new : Core) (at : A
   }
 
   -- it is a turn at the hub, ..
-  plain-turn : (plans : List Plan) (all : AddonStates) → IsHubTurn n plans run before all (record run { core = new }) after all
+  plain-turn : (plans : List Plan) (all : AddonStates) → IsMadeHubTurn n plans run before all (record run { core = new }) after all
   plain-turn plans all =
-      subst (λ c. IsHubTurn n plans run before all (record run { core = c }) after all) (sym m.made)
+      subst (λ c. IsMadeHubTurn n plans run before all (record run { core = c }) after all) (sym m.made)
       (event-turn n run before after all all m.event m.entry m.env None run.begun at.rest at.led m.adds m.plain.event (takes-none run.core.env.addons all) plans
       m.plain.addons plain-fits
       (subst (λ fs. OnlyInnermostChanges run.core.env.frames fs all.registers all.registers) (sym (m.plain.frames ∙ at.rest.frames)) refl))
@@ -238,9 +238,9 @@ module _ (n : Numbers) (run : Run) (before after : HubSeen) (new : Core) (at : A
 
 -- the same, where the run is known as its parts
 pub moved-turn : (n : Numbers) (plans : List Plan) (run old : Run) (before after : HubSeen) (all : AddonStates) (new : Core) → run ≡ old → AtHub n run before
-    → MovesPlainly run.core before new after → IsHubTurn n plans old before all (record run { core = new }) after all
+    → MovesPlainly run.core before new after → IsMadeHubTurn n plans old before all (record run { core = new }) after all
 moved-turn n plans run old before after all new same at m =
-    subst (λ r. IsHubTurn n plans r before all (record run { core = new }) after all) same (plain-turn n run before after new at m plans all)
+    subst (λ r. IsMadeHubTurn n plans r before all (record run { core = new }) after all) same (plain-turn n run before after new at m plans all)
 
 -- `go`, once every init frame has begun
 pub go-moves : (n : Numbers) (run : Run) (before after : HubSeen) (new : Core) (position : ℕ) → AtHub n run before → run.core.env.phase ≡ phase.Init

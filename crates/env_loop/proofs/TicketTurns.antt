@@ -35,8 +35,8 @@ use Rattle.env_core.specs.CoreSteps.{BeginsTicket}
 use Rattle.env_loop.specs.declared.run.FrameEnd.{FrameEnd}
 use Rattle.env_loop.specs.declared.turn.NextEvent.TheVariants as next
 use Rattle.env_loop.specs.Recording.{AddonStates, HasSeen, machine_of, IsRecorded, RecordsOwn, Continues}
-use Rattle.env_loop.specs.RecordedRuns.{Run, IsSoundEnvironment, Holds, IsRunning, hub_begun}
-use Rattle.env_loop.specs.Turns.{next_ticket_info, IsNextEvent, IsTurn}
+use Rattle.env_loop.specs.RecordedRuns.{Run, IsSoundEnvironment, HoldsDuty, IsRunning, hub_begun}
+use Rattle.env_loop.specs.Turns.{next_ticket_info, IsNextEvent, IsMadeTurn}
 use Rattle.env_loop.proofs.LocalGoing.{local-goes}
 use Rattle.env_loop.proofs.MadeTurns.{made-turn, running-idle}
 use Rattle.env_loop.proofs.Recordings.{own-grown}
@@ -156,7 +156,7 @@ pub ticket-turn : (ps : List Plan) (all now : AddonStates) (old new : Run) (mid 
     → old.core.env.addons ≤ length all.registers → old.core.env.addons ≤ length all.seen
     → now.registers ≡ with_addon_gifts all.registers due.addon due.gifts → now.seen ≡ set all.seen due.addon (seen_of all.seen due.addon ++ due ∷ [])
     → new ≡ record old { core = mid; begun = Some due }
-    → IsTurn ps old all new now
+    → IsMadeTurn ps old all new now
 ticket-turn ps all now old new mid due idle event b enough as_many given seen made =
     let core : Core = old.core in
     let n : ℕ = b.ticket in
@@ -202,7 +202,7 @@ ticket-running core mid begun after ending due idle b kept =
     let n : ℕ = b.ticket in
     let r : Registration = b.registration in
     let made : mid.env ≡ (ticket_change n r core.env).after = ap (λ (c : Core). c.env) b.after in
-    let held : Holds mid.env.frames after =
+    let held : HoldsDuty mid.env.frames after =
     ap (λ (e : Environment). duties_of e.frames) made ∙ ap (λ fs. duties_of (frame_of_duty (due_info n r) ∷ fs)) idle.alone
     ∙ ap (λ (x : DueInfo). x.duty ∷ []) (sym b.told) ∙ ap (λ o. option_to_list (option_map (λ (x : DueInfo). x.duty) o)) (sym kept) in
     let S : Environment → Type 0 = λ e. IsSoundEnvironment e in
@@ -214,10 +214,10 @@ pub ticket-turn-seen : (ps : List Plan) (all now : AddonStates) (inside old : Ru
     → IsNextEvent next.Ticket (local_choice old.core.env) → BeginsTicket inside.core due mid
     → old.core.env.addons ≤ length all.registers → old.core.env.addons ≤ length all.seen → info ≡ due
     → now.registers ≡ with_addon_gifts all.registers info.addon due.gifts → now.seen ≡ set all.seen info.addon (seen_of all.seen info.addon ++ due ∷ []) → begun ≡ Some due
-    → IsTurn ps old all (record { core = mid; begun = begun; ending = inside.ending }) now
+    → IsMadeTurn ps old all (record { core = mid; begun = begun; ending = inside.ending }) now
 ticket-turn-seen ps all now inside old mid begun due info same idle event b enough as_many told given seen kept =
     let new : Run = record { core = mid; begun = begun; ending = inside.ending } in
-    let P : Run → Type 0 = λ r. IsTurn ps r all new now in
+    let P : Run → Type 0 = λ r. IsMadeTurn ps r all new now in
     let N : Run → Type 0 = λ r. IsNextEvent next.Ticket (local_choice r.core.env) in
     let A : Run → Type 0 = λ r. r.core.env.addons ≤ length all.registers in
     let B : Run → Type 0 = λ r. r.core.env.addons ≤ length all.seen in

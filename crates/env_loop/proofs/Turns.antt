@@ -21,8 +21,8 @@ use Rattle.napi_types.proofs.environment.StandingFrames.{nested-init}
 use Rattle.env_core.specs.Core.{Core, after_change}
 use Rattle.env_loop.specs.declared.run.FrameEnd.{FrameEnd}
 use Rattle.env_loop.specs.Recording.{AddonStates, Continues}
-use Rattle.env_loop.specs.RecordedRuns.{Run, IsSoundEnvironment, IsPendingEnd, Holds, IsRunning, hub_begun, pending_at_hub}
-use Rattle.env_loop.specs.Turns.{ticket_info_of, IsTurn}
+use Rattle.env_loop.specs.RecordedRuns.{Run, IsSoundEnvironment, IsPendingEnd, HoldsDuty, IsRunning, hub_begun, pending_at_hub}
+use Rattle.env_loop.specs.Turns.{ticket_info_of, IsMadeTurn}
 use Rattle.env_loop.proofs.LocalGoing.{local-goes, KeepsStages, stages-same}
 use Rattle.env_loop.proofs.MadeTurns.{unowed-idle, made-turn}
 use Rattle.env_loop.proofs.RegisterTurns.{none-touched}
@@ -31,7 +31,7 @@ use Rattle.env_loop.proofs.SeenLists.{begins-chosen, seen-stays}
 
 -- WHERE NO FRAME STANDS
 -- no duty has begun that has not ended
-pub none-held : (fs : List Frame) (begun : Option DueInfo) → Holds fs begun → fs ≡ [] → begun ≡ None
+pub none-held : (fs : List Frame) (begun : Option DueInfo) → HoldsDuty fs begun → fs ≡ [] → begun ≡ None
 none-held fs None held alone = refl
 none-held fs (Some d) held alone = let no : [] ≡ d.duty ∷ [] = sym (ap duties_of alone) ∙ held in cc
 
@@ -136,7 +136,7 @@ module _ (ps : List Plan) (old : Run) (all : AddonStates) (idle : IsIdleRun old.
       → new ≡ record old { core = after_change change old.core }
       → duty_of change.after.frames ≡ None → change.after.addons ≡ old.core.env.addons → KeepsStages old.core.env.phase change.after.phase
       → Continues ps old.core all (after_change change old.core) all
-      → IsTurn ps old all new all
+      → IsMadeTurn ps old all new all
   alone-turn new change o chosen silent made plain addons stages goes =
       let is : new.core ≡ after_change change old.core = ap (λ (r : Run). r.core) made in
       let unended : new.ending ≡ None = ap (λ (r : Run). r.ending) made ∙ idle.ended in
@@ -149,7 +149,7 @@ module _ (ps : List Plan) (old : Run) (all : AddonStates) (idle : IsIdleRun old.
   -- the next init frame begins
   pub init-turn : (new : Run) (i : ℕ) → local_choice old.core.env ≡ Some (Inits i)
       → new ≡ record old { core = after_change (init_change i old.core.env) old.core }
-      → IsTurn ps old all new all
+      → IsMadeTurn ps old all new all
   init-turn new i chosen made =
       let n : NextInit old.core.env i = next-init-is old.core.env i chosen in
       let R : ℕ → Type 0 = λ k. Continues ps old.core all (after_change (init_change k old.core.env) old.core) all in
@@ -158,7 +158,7 @@ module _ (ps : List Plan) (old : Run) (all : AddonStates) (idle : IsIdleRun old.
 
   -- the environment is gone
   pub gone_change-turn : (new : Run) → local_choice old.core.env ≡ Some IsGone → new ≡ record old { core = after_change (gone_change old.core.env) old.core }
-      → IsTurn ps old all new all
+      → IsMadeTurn ps old all new all
   gone_change-turn new chosen made =
       let n : NextGone old.core.env = next-gone-is old.core.env chosen in
       alone-turn new (gone_change old.core.env) (Some IsGone) chosen refl made (ap duty_of idle.alone) refl
@@ -190,5 +190,6 @@ sound-gone e sound alone = record {
 
 -- AS IT IS SEEN
 -- the turn of a run as it is seen
-pub turn-seen : (ps : List Plan) (all now : AddonStates) (inside old new : Run) → inside ≡ old → IsTurn ps inside all new now → IsTurn ps old all new now
-turn-seen ps all now inside old new same turn = let P : Run → Type 0 = λ r. IsTurn ps r all new now in subst P same turn
+pub turn-seen : (ps : List Plan) (all now : AddonStates) (inside old new : Run) → inside ≡ old → IsMadeTurn ps inside all new now
+    → IsMadeTurn ps old all new now
+turn-seen ps all now inside old new same turn = let P : Run → Type 0 = λ r. IsMadeTurn ps r all new now in subst P same turn

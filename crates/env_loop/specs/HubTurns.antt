@@ -37,7 +37,8 @@ SpentAtFinals old new = new.stage ≡ Final → (old.stage ≡ Final) ⊎ (is_sp
 
 -- a turn that made one entry of the history: what was pending is done, only the innermost frame's addon may have other registers, an addon has seen a duty more
 -- where its frame begins, and a run that was followed goes on
-pub record IsHubTurn (n : Numbers) (plans : List Plan) (old : Run) (before : HubSeen) (all : AddonStates) (new : Run) (after : HubSeen) (now : AddonStates) : Type 0 where
+pub record IsMadeHubTurn (n : Numbers) (plans : List Plan) (old : Run) (before : HubSeen) (all : AddonStates) (new : Run) (after : HubSeen)
+    (now : AddonStates) : Type 0 where
   pub made : AddsEntryOf actor.Env before after
   pub answered : new.core.awaited ≡ None
   pub ended : new.ending ≡ None
@@ -74,10 +75,10 @@ pub record IsIdleTurn (old : Run) (before : HubSeen) (all : AddonStates) (new : 
   pub hub : after ≡ before
   pub addons : now ≡ all
 
-abbrev pub MatchHubTurn : Numbers → HubTurn → List Plan → Run → HubSeen → AddonStates → Run → HubSeen → AddonStates → Type 0
-MatchHubTurn n turn.Made plans old before all new after now = IsHubTurn n plans old before all new after now
-MatchHubTurn n (turn.Cut w) plans old before all new after now = IsCutTurn n plans w old before all new after now
-MatchHubTurn n turn.Nothing plans old before all new after now = IsIdleTurn old before all new after now
+abbrev pub HubTurnCameTo : Numbers → HubTurn → List Plan → Run → HubSeen → AddonStates → Run → HubSeen → AddonStates → Type 0
+HubTurnCameTo n turn.Made plans old before all new after now = IsMadeHubTurn n plans old before all new after now
+HubTurnCameTo n (turn.Cut w) plans old before all new after now = IsCutTurn n plans w old before all new after now
+HubTurnCameTo n turn.Nothing plans old before all new after now = IsIdleTurn old before all new after now
 
 -- the frame of a duty of the hub has begun in a run, at this position, and its addon was given what it tells
 pub record DeliversAt (d : DueInfo) (position : ℕ) (old : Run) (all : AddonStates) (new : Run) (now : AddonStates) : Type 0 where

@@ -62,8 +62,8 @@ pub record IsSoundEnvironment (e : Environment) : Type 0 where
   pub gone : e.phase ≡ phase.Gone → e.frames ≡ []
 
 -- the duty that began one of these frames is the one that has begun and has not ended, if there is one
-abbrev pub Holds : List Frame → Option DueInfo → Type 0
-Holds fs begun = duties_of fs ≡ option_to_list (option_map (λ d. d.duty) begun)
+abbrev pub HoldsDuty : List Frame → Option DueInfo → Type 0
+HoldsDuty fs begun = duties_of fs ≡ option_to_list (option_map (λ d. d.duty) begun)
 
 -- a call that is awaited is a shared one of the innermost frame, handed over as it stands there
 pub record IsAwaited (e : Environment) (c : SharedCall) : Type 0 where
@@ -81,7 +81,7 @@ pub record IsPendingEnd (e : Environment) (how : FrameEnd) : Type 0 where
 -- what a run keeps: besides, the duty of its frames is the one that it holds, and a call is pending, or an end, or neither
 pub record IsRunning (core : Core) (begun : Option DueInfo) (ending : Option FrameEnd) : Type 0 where
   pub sound : IsSoundEnvironment core.env
-  pub held : Holds core.env.frames begun
+  pub held : HoldsDuty core.env.frames begun
   pub awaited : IfSome core.awaited (IsAwaited core.env)
   pub ends : IfSome ending (IsPendingEnd core.env)
   pub one : core.awaited ≢ None → ending ≡ None

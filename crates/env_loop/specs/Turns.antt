@@ -152,7 +152,7 @@ pub record MakesEntry (old new : Run) : Type 0 where
 
 -- a turn: the addons that are no addons of the script keep their registers, only the innermost frame's addon may have other ones, an addon has seen a duty
 -- more where its frame begins, and a run that was followed goes on over the same history
-pub record IsTurn (plans : List Plan) (old : Run) (all : AddonStates) (new : Run) (now : AddonStates) : Type 0 where
+pub record IsMadeTurn (plans : List Plan) (old : Run) (all : AddonStates) (new : Run) (now : AddonStates) : Type 0 where
   pub others : drop old.core.env.addons now.registers ≡ drop old.core.env.addons all.registers
   pub untouched : OnlyInnermostChanges old.core.env.frames new.core.env.frames all.registers now.registers
   pub seen : HasSeen all.seen (option_to_list (next_ticket_info old.core.env)) now.seen
@@ -174,15 +174,15 @@ pub record BecamePending (plans : List Plan) (old : Run) (all : AddonStates) (ne
   pub goes : (history : List Entry) → RunGoesOn plans old history all new history now
 
 -- nothing changed
-pub record IsSame (old : Run) (all : AddonStates) (new : Run) (now : AddonStates) : Type 0 where
+pub record ChangedNothing (old : Run) (all : AddonStates) (new : Run) (now : AddonStates) : Type 0 where
   pub run : new ≡ old
   pub addons : now ≡ all
 
 -- a turn by what it comes to: it made its entry, something became pending, or it changed nothing
-abbrev pub MatchTurn : LocalTurn → List Plan → Run → AddonStates → Run → AddonStates → Type 0
-MatchTurn turn.Made plans old all new now = IsTurn plans old all new now
-MatchTurn turn.NeedsHub plans old all new now = BecamePending plans old all new now ⊎ IsSame old all new now
-MatchTurn turn.Gone plans old all new now = IsSame old all new now
+abbrev pub TurnCameTo : LocalTurn → List Plan → Run → AddonStates → Run → AddonStates → Type 0
+TurnCameTo turn.Made plans old all new now = IsMadeTurn plans old all new now
+TurnCameTo turn.NeedsHub plans old all new now = BecamePending plans old all new now ⊎ ChangedNothing old all new now
+TurnCameTo turn.Gone plans old all new now = ChangedNothing old all new now
 
 -- the innermost frame ended in this turn, no duty of the hub with it, and the addon of its caller was told
 pub record EndedNow (plans : List Plan) (all : Registers) (old : Run) (value : Option HandleId) (how : FrameEnd) (new : Run) (now : Registers) : Type 0 where

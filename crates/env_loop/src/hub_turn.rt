@@ -10,7 +10,7 @@ ghost use Rattle.addon_trait.specs.Addons.{TellSamePlans};
 ghost use Rattle.shared_hub.specs.KeptHubs.{IsLedHub};
 ghost use Rattle.env_loop.specs.Recording.{AddonStates, states_of};
 ghost use Rattle.env_loop.specs.RecordedRuns.{pending_at_hub, FitsHub};
-ghost use Rattle.env_loop.specs.HubTurns.{MatchHubTurn, IsHubTurn, DeliversAt};
+ghost use Rattle.env_loop.specs.HubTurns.{HubTurnCameTo, IsMadeHubTurn, DeliversAt};
 ghost use Rattle.env_loop.specs.Turns.{needs_hub};
 
 use crate::run::{EnvRun, FrameEnd, HubTurn};
@@ -35,7 +35,7 @@ impl EnvRun {
         ensures plans { TellSamePlans (λ b. plan b) addons.old.items addons.new.items }
         ensures turn { let before = states_of (λ b. regs b) (λ b. seen b) addons.old.items in
             let after = states_of (λ b. regs b) (λ b. seen b) addons.new.items in
-            MatchHubTurn N.numbers result (map (λ b. plan b) addons.old.items) self.old hub.old before self.new hub.new after }
+            HubTurnCameTo N.numbers result (map (λ b. plan b) addons.old.items) self.old hub.old before self.new hub.new after }
     {
         hub.invariant();
         if let Some(call) = self.core.awaited() {
@@ -70,7 +70,7 @@ impl EnvRun {
         ensures plans { TellSamePlans (λ b. plan b) addons.old.items addons.new.items }
         ensures turn { let before = states_of (λ b. regs b) (λ b. seen b) addons.old.items in
             let after = states_of (λ b. regs b) (λ b. seen b) addons.new.items in
-            MatchHubTurn N.numbers result (map (λ b. plan b) addons.old.items) self.old hub.old before self.new hub.new after }
+            HubTurnCameTo N.numbers result (map (λ b. plan b) addons.old.items) self.old hub.old before self.new hub.new after }
     {
         let Some(frame) = self.core.frame() else {
             unreachable!();
@@ -103,7 +103,7 @@ impl EnvRun {
         requires of_hub { is_hub_duty (duty_of self.old.core.env.frames) ≡ true }
         requires led { IsLedHub N.numbers hub.old }
         requires fits { FitsHub self.old hub.old }
-        ensures turn { (plans : List Plan) → (all : AddonStates) → IsHubTurn N.numbers plans self.old hub.old all self.new hub.new all }
+        ensures turn { (plans : List Plan) → (all : AddonStates) → IsMadeHubTurn N.numbers plans self.old hub.old all self.new hub.new all }
     {
         let Some(begun) = self.begun.take() else {
             unreachable!();
@@ -128,7 +128,7 @@ impl EnvRun {
         ensures plans { TellSamePlans (λ b. plan b) addons.old.items addons.new.items }
         ensures turn { let before = states_of (λ b. regs b) (λ b. seen b) addons.old.items in
             let after = states_of (λ b. regs b) (λ b. seen b) addons.new.items in
-            MatchHubTurn N.numbers result (map (λ b. plan b) addons.old.items) self.old hub.old before self.new hub.new after }
+            HubTurnCameTo N.numbers result (map (λ b. plan b) addons.old.items) self.old hub.old before self.new hub.new after }
     {
         let exit = is_exit(&self.core);
         if !exit {
@@ -163,7 +163,7 @@ impl EnvRun {
         ensures plans { TellSamePlans (λ b. plan b) addons.old.items addons.new.items }
         ensures turn { let before = states_of (λ b. regs b) (λ b. seen b) addons.old.items in
             let after = states_of (λ b. regs b) (λ b. seen b) addons.new.items in
-            MatchHubTurn N.numbers result (map (λ b. plan b) addons.old.items) self.old hub.old before self.new hub.new after }
+            HubTurnCameTo N.numbers result (map (λ b. plan b) addons.old.items) self.old hub.old before self.new hub.new after }
     {
         match teardown_step(&mut self.core, hub) {
             TearStep::Moved => HubTurn::Made,

@@ -11,7 +11,7 @@ ghost use Rattle.env_core.specs.Core.{after_change};
 ghost use Rattle.env_core.specs.Standing.{machine_frame};
 ghost use Rattle.env_loop.specs.Recording.{why_stopped, states_of};
 ghost use Rattle.env_loop.specs.RecordedRuns.{IsSoundEnvironment, cut_at, hub_begun, pending_at_hub, OneMore, FitsHub};
-ghost use Rattle.env_loop.specs.Turns.{event_turn as turn_at_event, turn_after, next_ticket_info, IsNextEvent, IsAskOf, ReplyIsNoted, IsTurn, MatchTurn, EndedOrPending, EndedBy};
+ghost use Rattle.env_loop.specs.Turns.{event_turn as turn_at_event, turn_after, next_ticket_info, IsNextEvent, IsAskOf, ReplyIsNoted, IsMadeTurn, TurnCameTo, EndedOrPending, EndedBy};
 
 use crate::run::{EnvRun, FrameEnd};
 use addon_trait::{Addon, ask_at, begin_at, enter_at, note_at};
@@ -120,7 +120,7 @@ impl EnvRun {
         ensures room { result ≡ LocalTurn.Made → length self.old.core.journal < self.old.core.limit }
         ensures goes { let before = states_of (λ b. regs b) (λ b. seen b) addons.old.items in
             let after = states_of (λ b. regs b) (λ b. seen b) addons.new.items in
-            MatchTurn result (map (λ b. plan b) addons.old.items) self.old before self.new after }
+            TurnCameTo result (map (λ b. plan b) addons.old.items) self.old before self.new after }
         ensures unbegun { result ≢ LocalTurn.Made → next_ticket_info self.old.core.env ≡ None }
         ensures ends { IfSome self.old.ending (λ how. pending_at_hub self.old ≡ false → EndedBy how self.old.core self.new.core) }
         ensures once { pending_at_hub self.old ≡ true → (self.new ≡ self.old) × (map (λ b. regs b) addons.new.items ≡ map (λ b. regs b) addons.old.items) }
@@ -161,7 +161,7 @@ impl EnvRun {
         ensures turn { result ≡ turn_after self.new self.old.core.env }
         ensures goes { let before = states_of (λ b. regs b) (λ b. seen b) addons.old.items in
             let after = states_of (λ b. regs b) (λ b. seen b) addons.new.items in
-            MatchTurn result (map (λ b. plan b) addons.old.items) self.old before self.new after }
+            TurnCameTo result (map (λ b. plan b) addons.old.items) self.old before self.new after }
     {
         if let Some(end) = self.ending {
             return self.end_turn(addons, frame.duty, None, end);
@@ -184,7 +184,7 @@ impl EnvRun {
         ensures turn { result ≡ turn_after self.new self.old.core.env }
         ensures goes { let before = states_of (λ b. regs b) (λ b. seen b) addons.old.items in
             let after = states_of (λ b. regs b) (λ b. seen b) addons.new.items in
-            MatchTurn result (map (λ b. plan b) addons.old.items) self.old before self.new after }
+            TurnCameTo result (map (λ b. plan b) addons.old.items) self.old before self.new after }
     {
         match ask_of(addons, frame) {
             Ask::Leave(value) => self.end_turn(addons, frame.duty, value, FrameEnd::Leaves),
@@ -226,7 +226,7 @@ impl EnvRun {
         ensures turn { result ≡ turn_after self.new self.old.core.env }
         ensures goes { let before = states_of (λ b. regs b) (λ b. seen b) addons.old.items in
             let after = states_of (λ b. regs b) (λ b. seen b) addons.new.items in
-            MatchTurn result (map (λ b. plan b) addons.old.items) self.old before self.new after }
+            TurnCameTo result (map (λ b. plan b) addons.old.items) self.old before self.new after }
     {
         match self.core.step(frame.asks, call) {
             Stepped::Reply(reply) => {
@@ -330,7 +330,7 @@ impl EnvRun {
         ensures turn { result ≡ turn_after self.new self.old.core.env }
         ensures goes { let before = states_of (λ b. regs b) (λ b. seen b) addons.old.items in
             let after = states_of (λ b. regs b) (λ b. seen b) addons.new.items in
-            MatchTurn result (map (λ b. plan b) addons.old.items) self.old before self.new after }
+            TurnCameTo result (map (λ b. plan b) addons.old.items) self.old before self.new after }
         ensures unbegun { result ≢ LocalTurn.Made → next_ticket_info self.old.core.env ≡ None }
     {
         match next_event(&self.core) {
@@ -361,7 +361,7 @@ impl EnvRun {
         ensures plans { TellSamePlans (λ b. plan b) addons.old.items addons.new.items }
         ensures made { let before = states_of (λ b. regs b) (λ b. seen b) addons.old.items in
             let after = states_of (λ b. regs b) (λ b. seen b) addons.new.items in
-            IsTurn (map (λ b. plan b) addons.old.items) self.old before self.new after }
+            IsMadeTurn (map (λ b. plan b) addons.old.items) self.old before self.new after }
     {
         let Some(due) = self.core.next_local() else {
             unreachable!();
