@@ -43,7 +43,7 @@ use Rattle.shared_hub.specs.declared.naming.Numbers.{Numbers}
 use Rattle.shared_hub.specs.HubStates.{HubSeen, AddsEntry, hub_room}
 use Rattle.shared_hub.specs.KeptHubs.{IsLedHub}
 use Rattle.shared_hub.specs.SharedTries.{given_by}
-use Rattle.env_loop.specs.FollowedRuns.{Asks, IsRecordedRun, taken_in, HasNumbers}
+use Rattle.env_loop.specs.FollowedRuns.{Asks, IsRecordedWithPending, taken_in, HasNumbers}
 use Rattle.env_loop.specs.HubTurns.{IsMadeHubTurn}
 use Rattle.env_loop.specs.Recording.{AddonStates, machine_of, HasSeen, IsOf, IsRecorded, RecordsOwn}
 use Rattle.env_loop.specs.RecordedRuns.{Run, IsSoundEnvironment, IsAwaited, IsPendingEnd, IsRunning, pending_at_hub, FitsHub}
@@ -93,7 +93,7 @@ answered-run : (s : Setting) (n : Numbers) (plans : List Plan) (old : Run) (c : 
     → IsLedHub n before → HasNumbers s n → IsOf s plans old.core → IsSoundEnvironment old.core.env → IsAwaited old.core.env c → old.core.awaited ≡ Some c
     → AddsEntry before (handed_entry c r) after → is_full (hub_room n before) c.call ≡ false
     → ReplyIsNoted plans all.registers old.core.env.frames r now.registers → now.seen ≡ all.seen
-    → IsRecordedRun s (taken_in before.history old) before.history all firsts
+    → IsRecordedWithPending s (taken_in before.history old) before.history all firsts
     → IsRecordedAtHub s (record { core = after_answer c r (length after.history) old.core; begun = old.begun; ending = None }) after.history now firsts
 answered-run s n plans old c r before after all now firsts led numbers of sound w awaited adds fits told unseen joined =
     let x : Entry = handed_entry c r in

@@ -26,7 +26,7 @@ use Rattle.env_loop.specs.declared.turn.LocalTurn.{LocalTurn}
 use Rattle.env_loop.specs.declared.turn.LocalTurn.TheVariants as turn
 use Rattle.env_loop.specs.ActorRuns.{AddsEntryOf}
 use Rattle.env_loop.specs.Bursts.{asks_no_more, silent_end, is_of_hub, hub_is_next_at, hub_is_next, made_by, AreHubNext, AddsEntriesOf, NothingPending, IsBurst, RunAtHub, BurstBetween, TurnsOn, StopsAtAsks}
-use Rattle.env_loop.specs.FollowedRuns.{RunGoesOn, GoesOnAt}
+use Rattle.env_loop.specs.FollowedRuns.{FollowsOn, FollowsOnAt}
 use Rattle.env_loop.specs.Recording.{AddonStates}
 use Rattle.env_loop.specs.RecordedRuns.{Run, IsSoundEnvironment, IsRunning, pending_at_hub, FitsHub}
 use Rattle.env_loop.specs.Turns.{event_turn, turn_at, turn_of, needs_hub, hub_event, IfCut, Awaits, IsAskIn}
@@ -84,7 +84,7 @@ owed-fits old new s core begun fits =
 
 -- no turn, and another end that is pending
 pub no-turn : (n : Numbers) (plans : List Plan) (old new : Run) (s : HubSeen) (all : AddonStates) → new.core ≡ old.core → new.begun ≡ old.begun → FitsHub old s
-    → RunGoesOn plans old s.history all new s.history all → IsBurst n plans 0 old s all new s all
+    → FollowsOn plans old s.history all new s.history all → IsBurst n plans 0 old s all new s all
 no-turn n plans old new s all core begun fits goes = record {
   grew = no-entries actor.Env s;
   kept = record { journal = ap (λ c. c.journal) core; addons = ap (λ c. c.env.addons) core; limit = ap (λ c. c.limit) core };
@@ -103,7 +103,7 @@ turn-grew (hub_turn.Cut w) before after made stays = subst (λ s. AddsEntriesOf 
 pub one-turn : (n : Numbers) (t : HubTurn) (plans : List Plan) (old : Run) (before : HubSeen) (all : AddonStates) (new : Run) (after : HubSeen) (now : AddonStates)
     → (t ≡ hub_turn.Made → AddsEntryOf actor.Env before after) → (t ≢ hub_turn.Made → after ≡ before)
     → new.core.journal ≡ old.core.journal → new.core.env.addons ≡ old.core.env.addons → new.core.limit ≡ old.core.limit → FitsHub new after
-    → drop old.core.env.addons now.registers ≡ drop old.core.env.addons all.registers → GoesOnAt n plans old before.history all new after.history now
+    → drop old.core.env.addons now.registers ≡ drop old.core.env.addons all.registers → FollowsOnAt n plans old before.history all new after.history now
     → IsBurst n plans (made_by t) old before all new after now
 one-turn n t plans old before all new after now made stays journal addons limit fits others goes = record {
   grew = turn-grew t before after made stays;
@@ -125,7 +125,7 @@ none-more (hub_turn.Cut w) k other = omega arith
 pub turns-then : (n : Numbers) (plans later : List Plan) (j k m : ℕ) (a b c : Run) (s t u : HubSeen) (x y z : AddonStates) → later ≡ plans → j + k ≡ m
     → IsBurst n plans j a s x b t y → IsBurst n later k b t y c u z → IsBurst n plans m a s x c u z
 turns-then n plans later j k m a b c s t u x y z planned is first last =
-    let on : GoesOnAt n plans b t.history y c u.history z = subst (λ ps. GoesOnAt n ps b t.history y c u.history z) planned last.goes in
+    let on : FollowsOnAt n plans b t.history y c u.history z = subst (λ ps. FollowsOnAt n ps b t.history y c u.history z) planned last.goes in
     record {
       grew = entries-then actor.Env j k m s t u is first.grew last.grew;
       kept = record {
@@ -232,9 +232,9 @@ silent-may plans old all f sound paid top silent = by (nat_lt f.asks most_asks) 
 pub silent-owed : (inside old : Run) (f : Frame) → inside ≡ old → IsRunning inside.core inside.begun inside.ending → NothingPending old
     → hub_is_next old ≡ true
     → head inside.core.env.frames ≡ Some f → (plans : List Plan) (all : AddonStates) (history : List Entry)
-    → RunGoesOn plans old history all (record inside { ending = Some (silent_end f) }) history all
+    → FollowsOn plans old history all (record inside { ending = Some (silent_end f) }) history all
 silent-owed inside old f same runs paid comes top plans all history =
-    let R : Run → Type 0 = λ r. RunGoesOn plans r history all (record inside { ending = Some (silent_end f) }) history all in
+    let R : Run → Type 0 = λ r. FollowsOn plans r history all (record inside { ending = Some (silent_end f) }) history all in
     let paid_here : NothingPending inside = subst NothingPending (sym same) paid in
     let over = at-top inside.core.env.frames inside.core.env f top (comes-unowed inside paid_here (ap hub_is_next same ∙ comes)) in
     subst R same ((owed-end plans inside all None (silent_end f) (silent-may plans inside all f runs.sound paid_here top over.1) over.0).goes history)

@@ -38,7 +38,7 @@ use Rattle.env_core.specs.Journal.{last_reply}
 use Rattle.env_core.specs.Sharing.{awaiting}
 use Rattle.env_loop.specs.declared.run.FrameEnd.{FrameEnd}
 use Rattle.env_loop.specs.FollowedRuns.{Asks}
-use Rattle.env_loop.specs.Recording.{AddonStates, machine_of, HasSeen, IsRecorded, Continues}
+use Rattle.env_loop.specs.Recording.{AddonStates, machine_of, HasSeen, IsRecorded, KeepsRecord}
 use Rattle.env_loop.specs.RecordedRuns.{Run, IsSoundEnvironment, HoldsDuty, IsRunning}
 use Rattle.env_loop.specs.Turns.{ReplyIsNoted, OnlyInnermostChanges, IsMadeTurn, BecamePending}
 use Rattle.env_loop.proofs.LocalGoing.{if_some-none, local-goes, stages-same}
@@ -57,7 +57,7 @@ on-last old new c r e p = let Q : Option Reply → Type 0 = λ q. MatchOption q 
 call_change-goes : {ps : List Plan} {core : Core} {all : AddonStates} {f : Frame} {a : Ask} → InFrame ps core.env all.registers f a
     → (c : Call) (r : Reply) (new : Core) (now : AddonStates) → f.asks < most_asks
     → ask.Do c ≡ a → is_shared c ≡ false → Replies core c r new → ReplyIsNoted ps all.registers core.env.frames r now.registers → now.seen ≡ all.seen
-    → Continues ps core all (after_change (call_change core.env c (number_of r.out)) core) now
+    → KeepsRecord ps core all (after_change (call_change core.env c (number_of r.out)) core) now
 call_change-goes {ps} {core} {all} {f} {a} i c r new now below is local reply told same = λ s hub history firsts of own.
     let rec : IsRecorded s core hub history all firsts = own.recorded in
     let k : ℕ = number_of r.out in
@@ -86,13 +86,13 @@ asked-turn : {ps : List Plan} {old : Run} {all : AddonStates} {f : Frame} {a : A
     → old.core.awaited ≡ None → old.ending ≡ None → asked_change old.core.env c n ≡ change → new ≡ after_change change old.core
     → drop old.core.env.addons now.registers ≡ drop old.core.env.addons all.registers
     → OnlyInnermostChanges old.core.env.frames change.after.frames all.registers now.registers → now.seen ≡ all.seen
-    → Continues ps old.core all (after_change change old.core) now
+    → KeepsRecord ps old.core all (after_change change old.core) now
     → IsMadeTurn ps old all (record old { core = new }) now
 asked-turn {ps} {old} {all} {f} {a} i c n change new now idle unended same made others untouched unseen goes =
     let e = old.core.env in
     let k : KeepsButFrames e (asked_change e c n).after (need c) = asked_change-fits e c n in
     let course = course-parts e (asked_change e c n).after k.course in
-    let Q : Core → Type 0 = λ x. Continues ps old.core all x now in
+    let Q : Core → Type 0 = λ x. KeepsRecord ps old.core all x now in
     let P : Option DueInfo → Type 0 = λ d. HasSeen all.seen (option_to_list d) now.seen in
     made-turn ps old (record old { core = new }) all now change made idle unended refl
     (ap (λ (x : Change). x.after.addons) (sym same) ∙ course.addons)
@@ -144,7 +144,7 @@ enter_change-goes : {ps : List Plan} {core : Core} {all : AddonStates} {f : Fram
     → core.env.addons ≤ length all.registers
     → now.registers ≡ with_addon_gifts all.registers (callee_of core.env.heap g).addon (call_gifts core.env.heap receiver g args)
     → now.seen ≡ all.seen
-    → Continues ps core all (after_change (enter_change receiver g args core.env) core) now
+    → KeepsRecord ps core all (after_change (enter_change receiver g args core.env) core) now
 enter_change-goes {ps} {core} {all} {f} {a} e receiver g args target given_gifts new now below is enters enough given same = λ s hub history firsts of own.
     let rec : IsRecorded s core hub history all firsts = own.recorded in
     let c : Call = call.CallFunction receiver g args in

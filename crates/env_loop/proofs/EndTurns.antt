@@ -42,7 +42,7 @@ use Rattle.env_loop.specs.declared.run.FrameEnd.{FrameEnd}
 use Rattle.env_loop.specs.declared.run.FrameEnd.TheVariants as end
 use Rattle.env_loop.specs.declared.turn.LocalTurn.{LocalTurn}
 use Rattle.env_loop.specs.declared.turn.LocalTurn.TheVariants as turn
-use Rattle.env_loop.specs.FollowedRuns.{Asks, StoppedAtHub, MayEndSo, IsRecordedRun}
+use Rattle.env_loop.specs.FollowedRuns.{Asks, StoppedAtHub, MayEndSo, IsRecordedWithPending}
 use Rattle.env_loop.specs.Recording.{AddonStates, machine_of, HasSeen, IsOf, IsRecorded, RecordsOwn}
 use Rattle.env_loop.specs.RecordedRuns.{Run, IsSoundEnvironment, HoldsDuty, IsRunning, cut_at}
 use Rattle.env_loop.specs.Turns.{ReplyIsNoted, OnlyInnermostChanges, IsMadeTurn, BecamePending, TurnCameTo, turn_after, EndedNow, EndedOrPending}
@@ -144,7 +144,7 @@ pub record MayEndInScripts (ps : List Plan) (old : Run) (all : AddonStates) (v :
   pub some : old.core.env.frames ≢ []
   pub idle : old.core.awaited ≡ None
   pub free : is_hub_duty (duty_of old.core.env.frames) ≡ true → old.ending ≡ None
-  pub may : (s : Setting) (front : List Entry) (firsts : List (List DueInfo)) → IsOf s ps old.core → IsRecordedRun s old front all firsts
+  pub may : (s : Setting) (front : List Entry) (firsts : List (List DueInfo)) → IsOf s ps old.core → IsRecordedWithPending s old front all firsts
       → MayEndAs s all.registers (machine_of s.limits old.core (hub_along (opening_of s).hub front) front) old.ending v how
 
 -- IT ENDS

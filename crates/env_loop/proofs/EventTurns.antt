@@ -31,7 +31,7 @@ use Rattle.env_core.specs.Core.{Core}
 use Rattle.shared_hub.specs.HubStates.{HubSeen, AddsEntry}
 use Rattle.shared_hub.specs.KeptHubs.{IsLedHub}
 use Rattle.shared_hub.specs.declared.naming.Numbers.{Numbers}
-use Rattle.env_loop.specs.FollowedRuns.{IsRecordedRun, IsFollowed, taken_in, HasNumbers, GoesOnAt}
+use Rattle.env_loop.specs.FollowedRuns.{IsRecordedWithPending, IsFollowed, taken_in, HasNumbers, FollowsOnAt}
 use Rattle.env_loop.specs.HubTurns.{SpentAtFinals, IsMadeHubTurn, HubTurnCameTo}
 use Rattle.env_loop.specs.RecordedRuns.{Run, pending_at_hub, IsRunning, FitsHub}
 use Rattle.env_loop.specs.Recording.{AddonStates, machine_of, AgreesWith, HasSeen, IsOf, IsRecorded, RecordsOwn}
@@ -198,7 +198,7 @@ module _ (n : Numbers) (old : Run) (before after : HubSeen) (all now : AddonStat
   core_at position = record old.core { env = e; position = position }
 
   event-recorded : (s : Setting) (firsts : List (List DueInfo)) → HasNumbers s n → IsOf s s.plans old.core
-      → IsRecordedRun s (taken_in before.history old) before.history all firsts
+      → IsRecordedWithPending s (taken_in before.history old) before.history all firsts
       → IsRecordedAtHub s (after_hub_event old e (length after.history) begun) after.history now firsts
   event-recorded s firsts numbers of r =
       let start : Hub = (opening_of s).hub in
@@ -243,7 +243,7 @@ module _ (n : Numbers) (old : Run) (before after : HubSeen) (all now : AddonStat
 -- a run that was followed goes on
 pub turn-goes : (n : Numbers) (t : HubTurn) (plans : List Plan) (old : Run) (before : HubSeen) (all : AddonStates) (new : Run) (after : HubSeen)
     (now : AddonStates)
-    → HubTurnCameTo n t plans old before all new after now → GoesOnAt n plans old before.history all new after.history now
+    → HubTurnCameTo n t plans old before all new after now → FollowsOnAt n plans old before.history all new after.history now
 turn-goes n hub_turn.Made plans old before all new after now m = m.goes
 turn-goes n (hub_turn.Cut w) plans old before all new after now m = m.goes
 turn-goes n hub_turn.Nothing plans old before all new after now m = λ s firsts numbers of f.

@@ -38,7 +38,7 @@ use Rattle.env_loop.specs.declared.run.FrameEnd.{FrameEnd}
 use Rattle.env_loop.specs.declared.run.FrameEnd.TheVariants as end
 use Rattle.env_loop.specs.Recording.{AddonStates, machine_of, HasSeen, IsRecorded}
 use Rattle.env_loop.specs.RecordedRuns.{Run, FitsHub}
-use Rattle.env_loop.specs.FollowedRuns.{MayEndSo, PendingIsAsked, IsRecordedRun, taken_in, FittingRunsStand, OthersAreTakenIn, OthersMayAdd}
+use Rattle.env_loop.specs.FollowedRuns.{MayEndSo, PendingIsAsked, IsRecordedWithPending, taken_in, FittingRunsStand, OthersAreTakenIn, OthersMayAdd}
 
 -- THE RUN
 module _ (s : Setting) (core : Core) (front rest : List Entry) (all : AddonStates) (firsts : List (List DueInfo))
@@ -141,11 +141,11 @@ others-taken-in s run history all firsts replays f =
     let r : IsRecorded s run.core (hub_along (opening_of s).hub f.front) f.front all firsts = f.joined.recorded in
     let joined : AreJoined s r.asks run.core.journal f.front f.rest =
     fronts-join s r.asks run.core.journal f.front f.rest _ r.run r.rises r.parted led f.others in
-    let whole : IsRecordedRun s (taken_in (f.front ++ f.rest) run) (f.front ++ f.rest) all firsts = record {
+    let whole : IsRecordedWithPending s (taken_in (f.front ++ f.rest) run) (f.front ++ f.rest) all firsts = record {
       recorded = taken s run.core f.front f.rest all firsts r (others-join s r.asks run.core.journal f.front f.rest joined) behind;
       owed = owed-stays s run f.front f.rest all f.others f.joined.owed behind;
     } in
-    subst (λ ks. IsRecordedRun s (taken_in ks run) ks all firsts) (sym f.history_is) whole
+    subst (λ ks. IsRecordedWithPending s (taken_in ks run) ks all firsts) (sym f.history_is) whole
 
 pub others-may-add : OthersMayAdd
 others-may-add s run history rest all firsts f added = record {

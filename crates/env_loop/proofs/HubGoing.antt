@@ -13,7 +13,7 @@ use Rattle.env_core.specs.Core.{Core, opened_core}
 use Rattle.shared_hub.specs.HubStates.{HubSeen}
 use Rattle.shared_hub.specs.KeptHubs.{IsLedHub}
 use Rattle.shared_hub.specs.declared.naming.Numbers.{Numbers}
-use Rattle.env_loop.specs.FollowedRuns.{IsRecordedRun, IsFollowed, taken_in, HasNumbers, GoesOnAt}
+use Rattle.env_loop.specs.FollowedRuns.{IsRecordedWithPending, IsFollowed, taken_in, HasNumbers, FollowsOnAt}
 use Rattle.env_loop.specs.RecordedRuns.{Run, opened_run}
 use Rattle.env_loop.specs.Recording.{AddonStates, IsOf, IsBehindOwn}
 use Rattle.env_loop.specs.OpenedAndGone.{OpenedRunsAreFollowed, GoneRunsHaveEnded}
@@ -37,7 +37,8 @@ replays-in n s before k numbers =
     subst L (sym numbers.limit) (subst T (sym numbers.threads) (subst W (sym numbers.workers) k.led.replays))
 
 -- a run that is recorded over the whole history is followed, where the environment made the last entry unless an end is pending
-pub followed-whole : (s : Setting) (run : Run) (history : List Entry) (all : AddonStates) (firsts : List (List DueInfo)) → IsRecordedRun s run history all firsts
+pub followed-whole : (s : Setting) (run : Run) (history : List Entry) (all : AddonStates) (firsts : List (List DueInfo))
+    → IsRecordedWithPending s run history all firsts
     → (run.ending ≡ None → IsBehindOwn run.core history)
     → IsFollowed s run history all firsts
 followed-whole s run history all firsts r own = record {
@@ -51,14 +52,15 @@ followed-whole s run history all firsts r own = record {
 
 -- it is so behind a turn at the hub
 pub record IsRecordedAtHub (s : Setting) (run : Run) (history : List Entry) (all : AddonStates) (firsts : List (List DueInfo)) : Type 0 where
-  pub joined : IsRecordedRun s run history all firsts
+  pub joined : IsRecordedWithPending s run history all firsts
   pub own : run.ending ≡ None → IsBehindOwn run.core history
 
 -- so a run that is followed goes on at the hub, where it does over the whole history
 pub goes-at-hub : (n : Numbers) (plans : List Plan) (old new : Run) (before after : HubSeen) (all now : AddonStates) → IsLedHub n before
-    → ((s : Setting) (firsts : List (List DueInfo)) → HasNumbers s n → IsOf s plans old.core → IsRecordedRun s (taken_in before.history old) before.history all firsts
+    → ((s : Setting) (firsts : List (List DueInfo)) → HasNumbers s n → IsOf s plans old.core → IsRecordedWithPending s
+    (taken_in before.history old) before.history all firsts
     → IsRecordedAtHub s new after.history now firsts)
-    → GoesOnAt n plans old before.history all new after.history now
+    → FollowsOnAt n plans old before.history all new after.history now
 goes-at-hub n plans old new before after all now k turn = λ s firsts numbers of f.
     let r : IsRecordedAtHub s new after.history now firsts =
     turn s firsts numbers of (others-taken-in s old before.history all firsts (replays-in n s before k numbers) f) in

@@ -8,18 +8,18 @@ use Rattle.napi_types.specs.hub.HubOwners.{IsOwnedHub}
 use Rattle.napi_types.specs.hub.HubSteps.{hub_along}
 use Rattle.napi_types.specs.runs.Setting.{opening_of}
 use Rattle.shared_hub.specs.HubStates.{HubSeen}
-use Rattle.env_loop.specs.Recording.{AddonStates, RecordsOwn, Continues}
+use Rattle.env_loop.specs.Recording.{AddonStates, RecordsOwn, KeepsRecord}
 use Rattle.env_loop.specs.RecordedRuns.{Run, hub_begun, FitsHub}
-use Rattle.env_loop.specs.FollowedRuns.{RunGoesOn}
+use Rattle.env_loop.specs.FollowedRuns.{FollowsOn}
 
 -- a fact of what is there holds where nothing is
 pub if_some-none : {A : Type 0} (P : A → Type 0) {o : Option A} → o ≡ None → IfSome o P
 if_some-none {A} P {o} none = let Q : Option A → Type 0 = λ x. IfSome x P in subst Q (sym none) tt
 
 -- a turn goes on over each history, where nothing is pending before it and after it
-pub local-goes : (plans : List Plan) (old new : Run) (all now : AddonStates) → Continues plans old.core all new.core now → old.ending ≡ None
+pub local-goes : (plans : List Plan) (old new : Run) (all now : AddonStates) → KeepsRecord plans old.core all new.core now → old.ending ≡ None
     → new.core.awaited ≡ None → new.ending ≡ None
-    → (history : List Entry) → RunGoesOn plans old history all new history now
+    → (history : List Entry) → FollowsOn plans old history all new history now
 local-goes plans old new all now turn free idle unended history = λ s firsts of f.
     let was : RecordsOwn s old.core (hub_along (opening_of s).hub f.front) f.front all firsts = record { recorded = f.joined.recorded; own = f.own free } in
     let is : RecordsOwn s new.core (hub_along (opening_of s).hub f.front) f.front now firsts = turn s (hub_along (opening_of s).hub f.front) f.front firsts of was in

@@ -18,7 +18,7 @@ use Rattle.env_loop.specs.declared.turn.LocalTurn.{LocalTurn}
 use Rattle.env_loop.specs.declared.turn.LocalTurn.TheVariants as turn
 use Rattle.env_loop.specs.Recording.{AddonStates, HasSeen}
 use Rattle.env_loop.specs.RecordedRuns.{Run, IsSoundEnvironment, IsAwaited, IsPendingEnd, IsRunning, hub_begun, pending_at_hub, FitsHub, OneMore}
-use Rattle.env_loop.specs.FollowedRuns.{IsFollowed, RunGoesOn}
+use Rattle.env_loop.specs.FollowedRuns.{IsFollowed, FollowsOn}
 use Rattle.env_loop.specs.Turns.{event_turn, turn_at, turn_after, next_ticket_info, OnlyInnermostChanges, IsMadeTurn, OnlyPendingChanged, BecamePending, ChangedNothing, TurnCameTo, EndedBy, EndedOrPending}
 use Rattle.env_loop.proofs.CutTurns.{unowed-local}
 use Rattle.env_loop.proofs.LocalGoing.{stages-same, fits-local}
@@ -112,7 +112,7 @@ pub record TurnTells (t : LocalTurn) (ps : List Plan) (old : Run) (all : AddonSt
   pub owes : t ≢ turn.Made → OnlyPendingChanged old new
   pub free : pending_at_hub old ≡ false → pending_at_hub new ≡ true → old.ending ≡ None
   pub same : t ≢ turn.Made → now ≡ all
-  pub goes : (history : List Entry) → RunGoesOn ps old history all new history now
+  pub goes : (history : List Entry) → FollowsOn ps old history all new history now
   pub fits : (hub : HubSeen) → FitsHub old hub → FitsHub new hub
   pub others : drop old.core.env.addons now.registers ≡ drop old.core.env.addons all.registers
   pub addons : new.core.env.addons ≡ old.core.env.addons

@@ -11,7 +11,7 @@ use Rattle.napi_types.specs.environment.Environment.{Environment}
 use Rattle.env_core.specs.Core.{Core, after_change}
 use Rattle.env_loop.specs.declared.run.FrameEnd.{FrameEnd}
 use Rattle.env_loop.specs.declared.turn.LocalTurn.TheVariants as turn
-use Rattle.env_loop.specs.FollowedRuns.{RunGoesOn}
+use Rattle.env_loop.specs.FollowedRuns.{FollowsOn}
 use Rattle.env_loop.specs.Recording.{AddonStates, HasSeen}
 use Rattle.env_loop.specs.RecordedRuns.{Run, IsSoundEnvironment, HoldsDuty, IsRunning, hub_begun, pending_at_hub}
 use Rattle.env_loop.specs.Turns.{turn_of, turn_after, next_ticket_info, OnlyInnermostChanges, IsMadeTurn}
@@ -73,7 +73,7 @@ pub made-turn : (ps : List Plan) (old new : Run) (all now : AddonStates) (change
     → drop old.core.env.addons now.registers ≡ drop old.core.env.addons all.registers
     → OnlyInnermostChanges old.core.env.frames change.after.frames all.registers now.registers
     → HasSeen all.seen (option_to_list (next_ticket_info old.core.env)) now.seen
-    → ((history : List Entry) → RunGoesOn ps old history all new history now)
+    → ((history : List Entry) → FollowsOn ps old history all new history now)
     → IsMadeTurn ps old all new now
 made-turn ps old new all now change made idle unended begun addons stages others untouched seen goes =
     let U : Core → Type 0 = λ c. OnlyInnermostChanges old.core.env.frames c.env.frames all.registers now.registers in

@@ -41,7 +41,7 @@ use Rattle.shared_hub.specs.HubStates.{HubSeen, KeepsStage, AddsEntry}
 use Rattle.shared_hub.specs.KeptHubs.{IsLedHub}
 use Rattle.env_loop.specs.declared.run.FrameEnd.{FrameEnd}
 use Rattle.env_loop.specs.declared.run.FrameEnd.TheVariants as end
-use Rattle.env_loop.specs.FollowedRuns.{Asks, MayEndSo, IsRecordedRun, taken_in, HasNumbers}
+use Rattle.env_loop.specs.FollowedRuns.{Asks, MayEndSo, IsRecordedWithPending, taken_in, HasNumbers}
 use Rattle.env_loop.specs.HubTurns.{IsMadeHubTurn}
 use Rattle.env_loop.specs.Recording.{AddonStates, machine_of, HasSeen, IsOf, IsRecorded, RecordsOwn}
 use Rattle.env_loop.specs.RecordedRuns.{Run, IsSoundEnvironment, IsRunning, cut_at, pending_at_hub, FitsHub}
@@ -165,7 +165,7 @@ ended-run : (s : Setting) (n : Numbers) (plans : List Plan) (old : Run) (how : F
     (firsts : List (List DueInfo))
     → IsLedHub n before → HasNumbers s n → IsOf s plans old.core → IsSoundEnvironment old.core.env → IsHubFrame old.core.env.frames → old.core.awaited ≡ None
     → old.ending ≡ Some how
-    → AddsEntry before (end_entry how old.core.env) after → IsRecordedRun s (taken_in before.history old) before.history all firsts
+    → AddsEntry before (end_entry how old.core.env) after → IsRecordedWithPending s (taken_in before.history old) before.history all firsts
     → IsRecordedAtHub s (ended_run old how (length after.history)) after.history all firsts
 ended-run s n plans old how before after all firsts led numbers of sound f idle owed adds joined =
     let x : Entry = end_entry how old.core.env in

@@ -31,7 +31,7 @@ use Rattle.shared_hub.specs.HubStates.{HubSeen, hub_room}
 use Rattle.shared_hub.specs.KeptHubs.{IsLedHub}
 use Rattle.shared_hub.specs.SharedTries.{given_by, GrowsAccepted, MayFindNoMemory}
 use Rattle.env_loop.specs.declared.run.FrameEnd.TheVariants as end
-use Rattle.env_loop.specs.FollowedRuns.{Asks, StoppedAtHub, IsRecordedRun, taken_in, HasNumbers}
+use Rattle.env_loop.specs.FollowedRuns.{Asks, StoppedAtHub, IsRecordedWithPending, taken_in, HasNumbers}
 use Rattle.env_loop.specs.HubTurns.{IsCutTurn, StopsAs}
 use Rattle.env_loop.specs.Recording.{AddonStates, machine_of, why_stopped}
 use Rattle.env_loop.specs.RecordedRuns.{Run, IsAwaited, IsRunning, FitsHub}
@@ -84,7 +84,7 @@ stopped-there q h c why.Asks shared stops = absurd stops
 stopped-run : (s : Setting) (n : Numbers) (old : Run) (c : SharedCall) (w : Why) (before : HubSeen) (all : AddonStates) (firsts : List (List DueInfo))
     → IsLedHub n before → HasNumbers s n
     → IsAwaited old.core.env c → old.core.awaited ≡ Some c → StopsIn (hub_room n before) before.hub c w
-    → IsRecordedRun s (taken_in before.history old) before.history all firsts
+    → IsRecordedWithPending s (taken_in before.history old) before.history all firsts
     → IsRecordedAtHub s
     (record { core = after_no_answer (length before.history) old.core; begun = old.begun; ending = Some (end.Cut w) }) before.history all firsts
 stopped-run s n old c w before all firsts led numbers stands awaited stops joined =

@@ -34,7 +34,7 @@ use Rattle.env_core.specs.Core.{Core, after_change}
 use Rattle.env_core.specs.CoreSteps.{BeginsTicket}
 use Rattle.env_loop.specs.declared.run.FrameEnd.{FrameEnd}
 use Rattle.env_loop.specs.declared.turn.NextEvent.TheVariants as next
-use Rattle.env_loop.specs.Recording.{AddonStates, HasSeen, machine_of, IsRecorded, RecordsOwn, Continues}
+use Rattle.env_loop.specs.Recording.{AddonStates, HasSeen, machine_of, IsRecorded, RecordsOwn, KeepsRecord}
 use Rattle.env_loop.specs.RecordedRuns.{Run, IsSoundEnvironment, HoldsDuty, IsRunning, hub_begun}
 use Rattle.env_loop.specs.Turns.{next_ticket_info, IsNextEvent, IsMadeTurn}
 use Rattle.env_loop.proofs.LocalGoing.{local-goes}
@@ -173,7 +173,7 @@ ticket-turn ps all now old new mid due idle event b enough as_many given seen ma
     let is : new.core ≡ after_change (ticket_change n r core.env) core = ap (λ (x : Run). x.core) made ∙ b.after in
     let unended : new.ending ≡ None = ap (λ (x : Run). x.ending) made ∙ idle.ended in
     let local : hub_begun (Some due) ≡ None = ap (λ (x : DueInfo). hub_begun (Some x)) b.told in
-    let C : Core → Type 0 = λ c. Continues ps core all c now in
+    let C : Core → Type 0 = λ c. KeepsRecord ps core all c now in
     let T : DueInfo → Type 0 = λ (x : DueInfo). HasSeen all.seen (x ∷ []) now.seen in
     let G : DueInfo → Type 0 = λ (x : DueInfo). now.registers ≡ with_addon_gifts all.registers x.addon x.gifts in
     let given_it : now.registers ≡ with_addon_gifts all.registers r.addon d.gifts = subst G b.told given in

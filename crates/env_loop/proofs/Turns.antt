@@ -20,7 +20,7 @@ use Rattle.napi_types.proofs.environment.Owners.{owned-init, within-init}
 use Rattle.napi_types.proofs.environment.StandingFrames.{nested-init}
 use Rattle.env_core.specs.Core.{Core, after_change}
 use Rattle.env_loop.specs.declared.run.FrameEnd.{FrameEnd}
-use Rattle.env_loop.specs.Recording.{AddonStates, Continues}
+use Rattle.env_loop.specs.Recording.{AddonStates, KeepsRecord}
 use Rattle.env_loop.specs.RecordedRuns.{Run, IsSoundEnvironment, IsPendingEnd, HoldsDuty, IsRunning, hub_begun, pending_at_hub}
 use Rattle.env_loop.specs.Turns.{ticket_info_of, IsMadeTurn}
 use Rattle.env_loop.proofs.LocalGoing.{local-goes, KeepsStages, stages-same}
@@ -135,12 +135,12 @@ module _ (ps : List Plan) (old : Run) (all : AddonStates) (idle : IsIdleRun old.
   alone-turn : (new : Run) (change : Change) (o : Option Event) → local_choice old.core.env ≡ o → ticket_info_of old.core.env o ≡ None
       → new ≡ record old { core = after_change change old.core }
       → duty_of change.after.frames ≡ None → change.after.addons ≡ old.core.env.addons → KeepsStages old.core.env.phase change.after.phase
-      → Continues ps old.core all (after_change change old.core) all
+      → KeepsRecord ps old.core all (after_change change old.core) all
       → IsMadeTurn ps old all new all
   alone-turn new change o chosen silent made plain addons stages goes =
       let is : new.core ≡ after_change change old.core = ap (λ (r : Run). r.core) made in
       let unended : new.ending ≡ None = ap (λ (r : Run). r.ending) made ∙ idle.ended in
-      let C : Core → Type 0 = λ c. Continues ps old.core all c all in
+      let C : Core → Type 0 = λ c. KeepsRecord ps old.core all c all in
       made-turn ps old new all all change is idle.awaited unended (ap (λ (r : Run). hub_begun r.begun) made) addons stages refl
       (none-touched old.core.env.frames change.after.frames all.registers idle.alone plain)
       (seen-stays old.core.env all.seen all.seen (begins-chosen old.core.env o idle.alone chosen ∙ silent) refl)
@@ -152,7 +152,7 @@ module _ (ps : List Plan) (old : Run) (all : AddonStates) (idle : IsIdleRun old.
       → IsMadeTurn ps old all new all
   init-turn new i chosen made =
       let n : NextInit old.core.env i = next-init-is old.core.env i chosen in
-      let R : ℕ → Type 0 = λ k. Continues ps old.core all (after_change (init_change k old.core.env) old.core) all in
+      let R : ℕ → Type 0 = λ k. KeepsRecord ps old.core all (after_change (init_change k old.core.env) old.core) all in
       alone-turn new (init_change i old.core.env) (Some (Inits i)) chosen refl made refl refl (λ s is. is)
       (subst R (sym n.next) (λ s hub history firsts of r. init-grown s old.core hub history all firsts r idle.alone n.here n.opened n.more))
 

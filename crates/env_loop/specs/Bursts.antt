@@ -21,7 +21,7 @@ use Rattle.env_loop.specs.declared.turn.LocalTurn.{LocalTurn}
 use Rattle.env_loop.specs.declared.turn.LocalTurn.TheVariants as turn
 use Rattle.env_loop.specs.Recording.{AddonStates}
 use Rattle.env_loop.specs.RecordedRuns.{Run, pending_at_hub, FitsHub}
-use Rattle.env_loop.specs.FollowedRuns.{GoesOnAt}
+use Rattle.env_loop.specs.FollowedRuns.{FollowsOnAt}
 use Rattle.env_loop.specs.HubTurns.{KeepsJournal}
 use Rattle.env_loop.specs.Turns.{event_turn}
 
@@ -80,7 +80,7 @@ pub record IsBurst (n : Numbers) (plans : List Plan) (made : ℕ) (old : Run) (b
   pub kept : KeepsJournal old new
   pub fits : FitsHub new after
   pub others : drop old.core.env.addons now.registers ≡ drop old.core.env.addons all.registers
-  pub goes : GoesOnAt n plans old before.history all new after.history now
+  pub goes : FollowsOnAt n plans old before.history all new after.history now
 
 -- WHERE IT STOPS
 -- the environment's run, the hub beside it, and what is seen of the addons

@@ -48,7 +48,7 @@ pub record PendingIsAsked (s : Setting) (rss : Registers) (m : Machine) (run : R
 
 -- THE RUN OVER A HISTORY
 -- the run is recorded over this history, which has led to this hub, with what is pending
-pub record IsRecordedRun (s : Setting) (run : Run) (history : List Entry) (all : AddonStates) (firsts : List (List DueInfo)) : Type 0 where
+pub record IsRecordedWithPending (s : Setting) (run : Run) (history : List Entry) (all : AddonStates) (firsts : List (List DueInfo)) : Type 0 where
   pub recorded : IsRecorded s run.core (hub_along (opening_of s).hub history) history all firsts
   pub owed : PendingIsAsked s all.registers (machine_of s.limits run.core (hub_along (opening_of s).hub history) history) run
 
@@ -59,7 +59,7 @@ pub record IsFollowed (s : Setting) (run : Run) (history : List Entry) (all : Ad
   pub rest : List Entry
   pub history_is : history ≡ front ++ rest
   pub others : All (λ x. is_environment x.actor ≡ false) rest
-  pub joined : IsRecordedRun s run front all firsts
+  pub joined : IsRecordedWithPending s run front all firsts
   pub own : run.ending ≡ None → IsBehindOwn run.core front
 
 -- AS OTHERS GO ON
@@ -72,7 +72,7 @@ abbrev pub OthersAreTakenIn : Type 0
 OthersAreTakenIn = (s : Setting) (run : Run) (history : List Entry) (all : AddonStates) (firsts : List (List DueInfo))
     → HubReplays s.limits.history (opening_of s).hub 0 history
     → IsFollowed s run history all firsts
-    → IsRecordedRun s (taken_in history run) history all firsts
+    → IsRecordedWithPending s (taken_in history run) history all firsts
 
 -- others may add entries at any time
 abbrev pub OthersMayAdd : Type 0
@@ -85,10 +85,9 @@ FittingRunsStand = (run : Run) (before after : HubSeen) (x : Entry) → FitsHub 
     → FitsHub run after
 
 -- TURNS
--- whatever script of these addons it is a run of, and whatever they saw first, the run that is followed goes on from one run, history and these addons to
--- another
-abbrev pub RunGoesOn : List Plan → Run → List Entry → AddonStates → Run → List Entry → AddonStates → Type 0
-RunGoesOn plans old before all new after now =
+-- for every setting with these addons and whatever they saw first: a run that is followed before the turn is followed after it
+abbrev pub FollowsOn : List Plan → Run → List Entry → AddonStates → Run → List Entry → AddonStates → Type 0
+FollowsOn plans old before all new after now =
     (s : Setting) (firsts : List (List DueInfo)) → IsOf s plans old.core → IsFollowed s old before all firsts → IsFollowed s new after now firsts
 
 -- the script has so many threads and workers, and the history this limit
@@ -97,7 +96,7 @@ pub record HasNumbers (s : Setting) (n : Numbers) : Type 0 where
   pub workers : s.workers ≡ n.workers
   pub limit : s.limits.history ≡ n.limits.history
 
--- so it goes on where the script has these numbers
-abbrev pub GoesOnAt : Numbers → List Plan → Run → List Entry → AddonStates → Run → List Entry → AddonStates → Type 0
-GoesOnAt n plans old before all new after now =
+-- the same, for settings with these numbers of threads, workers and places
+abbrev pub FollowsOnAt : Numbers → List Plan → Run → List Entry → AddonStates → Run → List Entry → AddonStates → Type 0
+FollowsOnAt n plans old before all new after now =
     (s : Setting) (firsts : List (List DueInfo)) → HasNumbers s n → IsOf s plans old.core → IsFollowed s old before all firsts → IsFollowed s new after now firsts

@@ -22,7 +22,7 @@ use Rattle.env_loop.specs.declared.run.HubTurn.TheVariants as turn
 use Rattle.env_loop.specs.ActorRuns.{AddsEntryOf}
 use Rattle.env_loop.specs.Recording.{AddonStates, HasSeen}
 use Rattle.env_loop.specs.RecordedRuns.{Run, pending_at_hub, FitsHub}
-use Rattle.env_loop.specs.FollowedRuns.{GoesOnAt}
+use Rattle.env_loop.specs.FollowedRuns.{FollowsOnAt}
 use Rattle.env_loop.specs.Turns.{Awaits, OnlyInnermostChanges, begins_at_hub, hub_event}
 
 -- the journal, the addons and the limit stay
@@ -50,7 +50,7 @@ pub record IsMadeHubTurn (n : Numbers) (plans : List Plan) (old : Run) (before :
   pub seen : HasSeen all.seen (option_to_list (begins_at_hub old before.hub)) now.seen
   pub fitted : IfSome old.core.awaited (λ c. is_full (hub_room n before) c.call ≡ false)
   pub spent : SpentAtFinals before.hub after.hub
-  pub goes : GoesOnAt n plans old before.history all new after.history now
+  pub goes : FollowsOnAt n plans old before.history all new after.history now
 
 -- why the hub may stop a call: as full where the history has no room for it; for want of memory where it has room and may find none; and never for its asks
 abbrev pub StopsAs : Numbers → HubSeen → Option SharedCall → Why → Type 0
@@ -65,7 +65,7 @@ pub record IsCutTurn (n : Numbers) (plans : List Plan) (w : Why) (old : Run) (be
   pub run : new ≡ record old { core = after_no_answer (length before.history) old.core; ending = Some (end.Cut w) }
   pub addons : now ≡ all
   pub fits : FitsHub new after
-  pub goes : GoesOnAt n plans old before.history all new after.history now
+  pub goes : FollowsOnAt n plans old before.history all new after.history now
 
 -- a turn at which there is nothing to do
 pub record IsIdleTurn (old : Run) (before : HubSeen) (all : AddonStates) (new : Run) (after : HubSeen) (now : AddonStates) : Type 0 where

@@ -129,9 +129,9 @@ pub record IsOf (s : Setting) (plans : List Plan) (core : Core) : Type 0 where
   pub count : length s.plans ≡ core.env.addons
   pub first : (addon : ℕ) → addon < length s.plans → plan_of s.plans addon ≡ plan_of plans addon
 
--- whatever script of these addons it is a run of, however far its hub is, and whatever they saw first, the recorded run, of which the environment made the last
--- entry, goes on so from one core and these addons to another
-abbrev pub Continues : List Plan → Core → AddonStates → Core → AddonStates → Type 0
-Continues plans old all new now =
+-- for every setting with these addons, however far its hub is and whatever they saw first: a run that is recorded, with its last entry the environment's, stays
+-- so from one core and these addons to another
+abbrev pub KeepsRecord : List Plan → Core → AddonStates → Core → AddonStates → Type 0
+KeepsRecord plans old all new now =
     (s : Setting) (hub : Hub) (history : List Entry) (firsts : List (List DueInfo)) → IsOf s plans old → RecordsOwn s old hub history all firsts
     → RecordsOwn s new hub history now firsts

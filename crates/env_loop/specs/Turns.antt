@@ -36,7 +36,7 @@ use Rattle.env_loop.specs.declared.turn.NextEvent.{NextEvent}
 use Rattle.env_loop.specs.declared.turn.NextEvent.TheVariants as next
 use Rattle.env_loop.specs.Recording.{AddonStates, HasSeen}
 use Rattle.env_loop.specs.RecordedRuns.{Run, OneMore, cut_at, pending_at_hub, hub_begun, FitsHub}
-use Rattle.env_loop.specs.FollowedRuns.{RunGoesOn}
+use Rattle.env_loop.specs.FollowedRuns.{FollowsOn}
 
 -- THE NEXT EVENT
 -- the event that the environment decides alone, where it does; else the next event is the hub's, if there is one
@@ -157,7 +157,7 @@ pub record IsMadeTurn (plans : List Plan) (old : Run) (all : AddonStates) (new :
   pub untouched : OnlyInnermostChanges old.core.env.frames new.core.env.frames all.registers now.registers
   pub seen : HasSeen all.seen (option_to_list (next_ticket_info old.core.env)) now.seen
   pub kept : MakesEntry old new
-  pub goes : (history : List Entry) → RunGoesOn plans old history all new history now
+  pub goes : (history : List Entry) → FollowsOn plans old history all new history now
 
 -- all is as it was but for what is pending
 abbrev pub OnlyPendingChanged : Run → Run → Type 0
@@ -171,7 +171,7 @@ pub record BecamePending (plans : List Plan) (old : Run) (all : AddonStates) (ne
   pub free : old.ending ≡ None
   pub owes : pending_at_hub new ≡ true
   pub same : now ≡ all
-  pub goes : (history : List Entry) → RunGoesOn plans old history all new history now
+  pub goes : (history : List Entry) → FollowsOn plans old history all new history now
 
 -- nothing changed
 pub record ChangedNothing (old : Run) (all : AddonStates) (new : Run) (now : AddonStates) : Type 0 where

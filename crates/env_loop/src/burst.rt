@@ -12,7 +12,7 @@ ghost use Rattle.shared_hub.specs.HubStates.{HubSeen, hub_room};
 ghost use Rattle.shared_hub.specs.SharedTries.{given_by, MayFindNoMemory};
 ghost use Rattle.env_loop.specs.Recording.{AddonStates, states_of};
 ghost use Rattle.env_loop.specs.RecordedRuns.{pending_at_hub, FitsHub};
-ghost use Rattle.env_loop.specs.FollowedRuns.{RunGoesOn, GoesOnAt};
+ghost use Rattle.env_loop.specs.FollowedRuns.{FollowsOn, FollowsOnAt};
 ghost use Rattle.env_loop.specs.Turns.{event_turn, needs_hub, hub_event, IfCut, Awaits};
 ghost use Rattle.env_loop.specs.Bursts.{asks_no_more, silent_end, is_of_hub as is_for_hub, hub_is_next, made_by, AddsEntriesOf, IsBurst, NothingPending, TurnsOn, StopsAtAsks};
 
@@ -97,7 +97,7 @@ impl EnvRun {
         // addons that are no addons of the script keep their registers, and all keep them where no entry was made.
         ensures goes { let before = states_of (λ b. regs b) (λ b. seen b) addons.old.items in
             let after = states_of (λ b. regs b) (λ b. seen b) addons.new.items in
-            GoesOnAt N.numbers (map (λ b. plan b) addons.old.items) self.old hub.old.history before self.new hub.new.history after }
+            FollowsOnAt N.numbers (map (λ b. plan b) addons.old.items) self.old hub.old.history before self.new hub.new.history after }
         ensures fits { FitsHub self.new hub.new }
         ensures journal { self.new.core.journal ≡ self.old.core.journal }
         ensures addons { self.new.core.env.addons ≡ self.old.core.env.addons }
@@ -194,7 +194,7 @@ impl EnvRun {
         ensures needs { needs_hub self.new }
         ensures core { self.new.core ≡ self.old.core }
         ensures begun { self.new.begun ≡ self.old.begun }
-        ensures goes { (plans : List Plan) (all : AddonStates) (history : List Entry) → RunGoesOn plans self.old history all self.new history all }
+        ensures goes { (plans : List Plan) (all : AddonStates) (history : List Entry) → FollowsOn plans self.old history all self.new history all }
     {
         let Some(frame) = self.core.frame() else {
             return;

@@ -11,7 +11,7 @@ ghost use Rattle.shared_hub.specs.SharedTries.{given_by, MayFindNoMemory};
 ghost use Rattle.env_loop.specs.ActorRuns.{AddsEntryOf};
 ghost use Rattle.env_loop.specs.Recording.{HasSeen, states_of};
 ghost use Rattle.env_loop.specs.RecordedRuns.{IsOpened, opened_run, pending_at_hub, FitsHub, OneMore};
-ghost use Rattle.env_loop.specs.FollowedRuns.{RunGoesOn, GoesOnAt};
+ghost use Rattle.env_loop.specs.FollowedRuns.{FollowsOn, FollowsOnAt};
 ghost use Rattle.env_loop.specs.HubTurns.{SpentAtFinals};
 ghost use Rattle.env_loop.specs.Turns.{turn_after, needs_hub, next_ticket_info, begins_at_hub, hub_event, IfCut, Awaits, OnlyInnermostChanges, OnlyPendingChanged, EndedBy};
 
@@ -114,7 +114,7 @@ impl EnvRun {
         // of the script keep their registers.
         ensures goes { let before = states_of (λ b. regs b) (λ b. seen b) addons.old.items in
             let after = states_of (λ b. regs b) (λ b. seen b) addons.new.items in
-            (history : List Entry) → RunGoesOn (map (λ b. plan b) addons.old.items) self.old history before self.new history after }
+            (history : List Entry) → FollowsOn (map (λ b. plan b) addons.old.items) self.old history before self.new history after }
         ensures fits { (hub : HubSeen) → FitsHub self.old hub → FitsHub self.new hub }
         ensures others { let n = self.old.core.env.addons in
             drop n (map (λ b. regs b) addons.new.items) ≡ drop n (map (λ b. regs b) addons.old.items) }
@@ -175,7 +175,7 @@ impl EnvRun {
         // A run that was followed goes on, over the history as it is then. It fits with the hub, and the journal, the addons and the limit stay.
         ensures goes { let before = states_of (λ b. regs b) (λ b. seen b) addons.old.items in
             let after = states_of (λ b. regs b) (λ b. seen b) addons.new.items in
-            GoesOnAt N.numbers (map (λ b. plan b) addons.old.items) self.old hub.old.history before self.new hub.new.history after }
+            FollowsOnAt N.numbers (map (λ b. plan b) addons.old.items) self.old hub.old.history before self.new hub.new.history after }
         ensures fits { FitsHub self.new hub.new }
         ensures journal { self.new.core.journal ≡ self.old.core.journal }
         ensures addons { self.new.core.env.addons ≡ self.old.core.env.addons }

@@ -13,13 +13,13 @@ use Rattle.env_loop.specs.declared.actor.ActorRun.{ActorRun}
 use Rattle.runner.specs.declared.unstarted.Unstarted.{Unstarted}
 use Rattle.runner.specs.AtPasses.{IsAtPass}
 use Rattle.runner.specs.Crews.{runs_of}
-use Rattle.runner.specs.Environments.{HasGoneOnBeside, OfFirst}
+use Rattle.runner.specs.Environments.{HasFollowedOnAtPass, OfFirst}
 use Rattle.runner.specs.Places.{IsNumberedPass, AreBack, ComeBehind, AreAllBack}
 
 -- a run that is of the opened one
 pub ran-from : (n : Numbers) (plans : List Plan) (r s : Run) (before : AddonStates) (p : PassState) (env : Run) (after : AddonStates) → r ≡ s
-    → HasGoneOnBeside n plans r before p env after → HasGoneOnBeside n plans s before p env after
-ran-from n plans r s before p env after e = subst (λ q. HasGoneOnBeside n plans q before p env after) e
+    → HasFollowedOnAtPass n plans r before p env after → HasFollowedOnAtPass n plans s before p env after
+ran-from n plans r s before p env after e = subst (λ q. HasFollowedOnAtPass n plans q before p env after) e
 
 -- what the actor of a pass did stands at the hub
 abbrev pub StandsThere : Type 0 → Numbers → HubSeen → PassState → Type 0

@@ -22,7 +22,7 @@ use Rattle.env_loop.specs.RunsOverRows.{IsReplayed}
 use Rattle.env_loop.specs.declared.actor.ActorRun.{ActorRun}
 use Rattle.env_loop.proofs.HubGoing.{replays-in, gone-ended}
 use Rattle.runner.specs.AtPasses.{IsAtPass}
-use Rattle.runner.specs.Environments.{HasGoneOn, HasGoneOnBeside, OfFirst}
+use Rattle.runner.specs.Environments.{HasFollowedOn, HasFollowedOnAtPass, OfFirst}
 use Rattle.runner.proofs.TakenTurns.{actor-at-take, run-at-take}
 
 -- the history that is left has led to the hub
@@ -37,7 +37,8 @@ first-number number (suc count) numbers is = cc
 -- THE ENVIRONMENT
 module _ (n : Numbers) (s : HubSeen) (k : IsLedHub n s) (left : Record) (run : Run) (history : left.history ≡ s.history) (journal : left.journal ≡ run.core.journal)
     (gone : run.core.env.phase ≡ phase.Gone) where
-  ends : (plans : List Plan) (first : Run) (before after : AddonStates) → HasGoneOn n plans first before run after s → EndsWhole n plans first before left after
+  ends : (plans : List Plan) (first : Run) (before after : AddonStates) → HasFollowedOn n plans first before run after s
+      → EndsWhole n plans first before left after
   ends plans first before after has = λ t firsts numbers of followed.
       subst (λ xs. IsEnded t xs left.history after firsts) (sym journal)
       (subst (λ xs. IsEnded t run.core.journal xs after firsts) (sym history)
@@ -45,7 +46,7 @@ module _ (n : Numbers) (s : HubSeen) (k : IsLedHub n s) (left : Record) (run : R
 
   pub ended-whole : (count : ℕ) (ps : List PassState) → map (λ p. p.number) ps ≡ range_with_len 0 count → All (λ p. IsPrefix p.seen (rows_of n.threads s.history)) ps
       → All (λ p. p.own ≡ own_rows p.number (rows_of n.threads s.history)) ps → (plans : List Plan) (first : Run) (before after : AddonStates)
-      → OfFirst ps (λ p. HasGoneOnBeside n plans first before p run after) → EndsWhole n plans first before left after
+      → OfFirst ps (λ p. HasFollowedOnAtPass n plans first before p run after) → EndsWhole n plans first before left after
   ended-whole count [] every seen own plans first before after at = absurd at
   ended-whole count (p ∷ ps) every seen own plans first before after at =
       ends plans first before after

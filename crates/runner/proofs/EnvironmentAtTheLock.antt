@@ -18,34 +18,36 @@ use Rattle.shared_hub.specs.HubStates.{HubSeen, hub_seen}
 use Rattle.shared_hub.specs.KeptHubs.{IsLedHub}
 use Rattle.env_loop.specs.declared.turn.LocalTurn.TheVariants as local
 use Rattle.env_loop.specs.Bursts.{AddsEntriesOf}
-use Rattle.env_loop.specs.FollowedRuns.{IsFollowed, RunGoesOn, GoesOnAt}
+use Rattle.env_loop.specs.FollowedRuns.{IsFollowed, FollowsOn, FollowsOnAt}
 use Rattle.env_loop.specs.OpenedAndGone.{IsOpenedRun}
 use Rattle.env_loop.specs.RecordedRuns.{Run, FitsHub, pending_at_hub}
 use Rattle.env_loop.specs.Recording.{AddonStates}
 use Rattle.env_loop.specs.Turns.{event_turn, turn_at, turn_of, turn_after, OnlyPendingChanged}
 use Rattle.env_loop.proofs.FreshAndEnded.{opened-runs-fit}
-use Rattle.runner.specs.AtPasses.{StandsBeside}
+use Rattle.runner.specs.AtPasses.{HoldsAtPass}
 use Rattle.runner.specs.ActorsAtTheLock.{GrewByEntries}
-use Rattle.runner.specs.Environments.{HasGoneOn, HasGoneOnBeside}
+use Rattle.runner.specs.Environments.{HasFollowedOn, HasFollowedOnAtPass}
 use Rattle.runner.proofs.TakenTurns.{run-at-take, stands-after, stands-at-first}
 
 -- GOING ON
 -- a run goes on, and then on
 pub goes-then : (n : Numbers) (plans : List Plan) (first run new : Run) (front history later : List Entry) (start before after : AddonStates)
-    → first.core.env.addons ≡ run.core.env.addons → GoesOnAt n plans first front start run history before → GoesOnAt n plans run history before new later after
-    → GoesOnAt n plans first front start new later after
+    → first.core.env.addons ≡ run.core.env.addons → FollowsOnAt n plans first front start run history before
+    → FollowsOnAt n plans run history before new later after
+    → FollowsOnAt n plans first front start new later after
 goes-then n plans first run new front history later start before after same was is = λ s firsts numbers of f.
     is s firsts numbers (record { count = of.count ∙ same; first = of.first }) (was s firsts numbers of f)
 
 -- what a run was followed from, before its first turn
-pub opened-has-run : (n : Numbers) (plans : List Plan) (p : PassState) (run : Run) (all : AddonStates) → IsOpenedRun run → p.own ≡ [] → HasGoneOnBeside n plans run all p run all
+pub opened-has-run : (n : Numbers) (plans : List Plan) (p : PassState) (run : Run) (all : AddonStates) → IsOpenedRun run → p.own ≡ []
+    → HasFollowedOnAtPass n plans run all p run all
 opened-has-run n plans p run all opened own =
-    stands-at-first n p (HasGoneOn n plans run all run all) own (record { fits = opened-runs-fit n run opened; goes = λ s firsts numbers of f. f })
+    stands-at-first n p (HasFollowedOn n plans run all run all) own (record { fits = opened-runs-fit n run opened; goes = λ s firsts numbers of f. f })
 
 -- it goes on by a turn without the hub
 pub has-run-alone : (n : Numbers) (plans : List Plan) (first run new : Run) (p : PassState) (start before after : AddonStates) → first.core.env.addons ≡ run.core.env.addons
-    → HasGoneOnBeside n plans first start p run before → ((history : List Entry) → RunGoesOn plans run history before new history after)
-    → ((hub : HubSeen) → FitsHub run hub → FitsHub new hub) → HasGoneOnBeside n plans first start p new after
+    → HasFollowedOnAtPass n plans first start p run before → ((history : List Entry) → FollowsOn plans run history before new history after)
+    → ((hub : HubSeen) → FitsHub run hub → FitsHub new hub) → HasFollowedOnAtPass n plans first start p new after
 has-run-alone n plans first run new p start before after same at goes fits = record {
   history = at.history;
   led = at.led;
@@ -61,14 +63,16 @@ has-run-alone n plans first run new p start before after same at goes fits = rec
 pub has-run-locked : (n : Numbers) (plans : List Plan) (first run new : Run) (p q : PassState) (start before after : AddonStates) (s0 s1 : HubSeen)
     → first.core.env.addons ≡ run.core.env.addons → p.number ≡ 0 → IsPrefix p.seen (rows_of n.threads s0.history) → p.own ≡ own_rows p.number (rows_of n.threads s0.history)
     → IsLedHub n s0 → IsLedHub n s1 → q.seen ≡ rows_of n.threads s1.history → q.own ≡ own_rows q.number (rows_of n.threads s1.history) → FitsHub new s1
-    → GoesOnAt n plans run s0.history before new s1.history after → HasGoneOnBeside n plans first start p run before → HasGoneOnBeside n plans first start q new after
+    → FollowsOnAt n plans run s0.history before new s1.history after → HasFollowedOnAtPass n plans first start p run before
+    → HasFollowedOnAtPass n plans first start q new after
 has-run-locked n plans first run new p q start before after s0 s1 same number seen own led0 led1 q_seen q_own fits goes at =
-    let taken : HasGoneOn n plans first start run before s0 = run-at-take n p s0.history seen own plans first start run before s0 refl led0.led number at in
-    stands-after n q s1 (HasGoneOn n plans first start new after) led1 q_seen q_own
+    let taken : HasFollowedOn n plans first start run before s0 = run-at-take n p s0.history seen own plans first start run before s0 refl led0.led number at in
+    stands-after n q s1 (HasFollowedOn n plans first start new after) led1 q_seen q_own
     (record { fits = fits; goes = goes-then n plans first run new [] s0.history s1.history start before after same taken.goes goes })
 
 -- what it keeps of the hub
-pub has-run-fits : (n : Numbers) (plans : List Plan) (first run : Run) (p : PassState) (start now : AddonStates) → HasGoneOnBeside n plans first start p run now → StandsBeside n p (FitsHub run)
+pub has-run-fits : (n : Numbers) (plans : List Plan) (first run : Run) (p : PassState) (start now : AddonStates)
+    → HasFollowedOnAtPass n plans first start p run now → HoldsAtPass n p (FitsHub run)
 has-run-fits n plans first run p start now at = record { history = at.history; led = at.led; seen = at.seen; own = at.own; holds = at.holds.fits }
 
 -- A TURN WITHOUT THE HUB
@@ -107,7 +111,7 @@ pub grew-there : (who : Actor) (s0 t0 t1 : HubSeen) (count : ℕ) → t0 ≡ s0 
 grew-there who s0 t0 t1 count first grew = (count, subst (λ s. AddsEntriesOf who count s t1) first grew)
 
 pub goes-there : (n : Numbers) (plans : List Plan) (old new : Run) (before after : AddonStates) (s0 t0 t1 : HubSeen) → t0 ≡ s0
-    → GoesOnAt n plans old t0.history before new t1.history after → GoesOnAt n plans old s0.history before new t1.history after
+    → FollowsOnAt n plans old t0.history before new t1.history after → FollowsOnAt n plans old s0.history before new t1.history after
 goes-there n plans old new before after s0 t0 t1 first goes = λ s firsts numbers of f.
     goes s firsts numbers of (subst (λ (h : HubSeen). IsFollowed s old h.history before firsts) (sym first) f)
 
@@ -115,13 +119,16 @@ goes-there n plans old new before after s0 t0 t1 first goes = λ s firsts number
 -- what is said of a turn with the plans that the addons tell then, which are those that they told first
 pub has-run-then : (n : Numbers) (plans later : List Plan) (first run new : Run) (p q : PassState) (start before after : AddonStates) → later ≡ plans
     → first.core.env.addons ≡ run.core.env.addons
-    → ((first : Run) (start : AddonStates) → first.core.env.addons ≡ run.core.env.addons → HasGoneOnBeside n later first start p run before → HasGoneOnBeside n later first start q new after)
-    → HasGoneOnBeside n plans first start p run before → HasGoneOnBeside n plans first start q new after
+    → ((first : Run) (start : AddonStates) → first.core.env.addons ≡ run.core.env.addons → HasFollowedOnAtPass n later first start p run before
+    → HasFollowedOnAtPass n later first start q new after)
+    → HasFollowedOnAtPass n plans first start p run before → HasFollowedOnAtPass n plans first start q new after
 has-run-then n plans later first run new p q start before after planned same ran at =
-    subst (λ ps. HasGoneOnBeside n ps first start q new after) planned (ran first start same (subst (λ ps. HasGoneOnBeside n ps first start p run before) (sym planned) at))
+    subst (λ ps. HasFollowedOnAtPass n ps first start q new after) planned
+    (ran first start same (subst (λ ps. HasFollowedOnAtPass n ps first start p run before) (sym planned) at))
 
 -- the run fits still where it fits with each hub as before
-pub fits-alone : (n : Numbers) (p : PassState) (run new : Run) → StandsBeside n p (FitsHub run) → ((hub : HubSeen) → FitsHub run hub → FitsHub new hub) → StandsBeside n p (FitsHub new)
+pub fits-alone : (n : Numbers) (p : PassState) (run new : Run) → HoldsAtPass n p (FitsHub run) → ((hub : HubSeen) → FitsHub run hub → FitsHub new hub)
+    → HoldsAtPass n p (FitsHub new)
 fits-alone n p run new at fits = record { history = at.history; led = at.led; seen = at.seen; own = at.own; holds = fits (hub_seen n at.history) at.holds }
 
 -- the addons that are no addons of the script keep what they have

@@ -25,8 +25,8 @@ use Rattle.env_loop.specs.RunsOverRows.{IsReplayed, OthersCame}
 use Rattle.env_loop.specs.declared.actor.ActorRun.{ActorRun}
 use Rattle.env_loop.proofs.FreshAndEnded.{fresh-actors-stand}
 use Rattle.env_loop.proofs.RunsOverRows.{actor-runs-stand-over, runs-followed-over, fitting-runs-stand-over}
-use Rattle.runner.specs.AtPasses.{StandsBeside, IsAtPass, IsFreshAtPass}
-use Rattle.runner.specs.Environments.{HasGoneOn}
+use Rattle.runner.specs.AtPasses.{HoldsAtPass, IsAtPass, IsFreshAtPass}
+use Rattle.runner.specs.Environments.{HasFollowedOn}
 use Rattle.runner.specs.ActorsAtTheLock.{GrewByEntries}
 
 prefix-twice : {A : Type 0} (xs ys zs : List A) → IsPrefix xs ys → IsPrefix ys zs → IsPrefix xs zs
@@ -36,7 +36,7 @@ prefix-twice xs ys zs p q = (p.0 ++ q.0, sym (append_assoc xs p.0 q.0) ∙ (ap (
 -- the history that is taken, or that is there once the lock is closed: the pass has seen a front of its rows, and has all its own rows
 module _ (n : Numbers) (p : PassState) (history : List Entry) (before : IsPrefix p.seen (rows_of n.threads history)) (own : p.own ≡ own_rows p.number (rows_of n.threads history)) where
   -- behind what the pass stood for came others alone
-  pub others-came : (Holds : HubSeen → Type 0) (at : StandsBeside n p Holds) → OthersCame n.threads p.number at.history history
+  pub others-came : (Holds : HubSeen → Type 0) (at : HoldsAtPass n p Holds) → OthersCame n.threads p.number at.history history
   others-came Holds at =
       let seen = rows_of n.threads at.history in
       let rows = rows_of n.threads history in
@@ -52,16 +52,16 @@ module _ (n : Numbers) (p : PassState) (history : List Entry) (before : IsPrefix
       (subst (λ m. OthersCame n.threads m at.stands.history s.history) at.number (subst (λ h. OthersCame n.threads p.number at.stands.history h) (sym is) came))
 
   -- and the environment's run fits with it, ..
-  pub run-fits-at-take : (run : Run) (s : HubSeen) → s.history ≡ history → IsReplayed n s → p.number ≡ 0 → StandsBeside n p (FitsHub run) → FitsHub run s
+  pub run-fits-at-take : (run : Run) (s : HubSeen) → s.history ≡ history → IsReplayed n s → p.number ≡ 0 → HoldsAtPass n p (FitsHub run) → FitsHub run s
   run-fits-at-take run s is led number at =
       fitting-runs-stand-over n run (hub_seen n at.history) s at.led led at.holds
       (subst (λ m. OthersCame n.threads m at.history s.history) number (subst (λ h. OthersCame n.threads p.number at.history h) (sym is) (others-came (FitsHub run) at)))
 
   -- .. and is followed over it
   pub run-at-take : (plans : List Plan) (first : Run) (start : AddonStates) (run : Run) (now : AddonStates) (s : HubSeen) → s.history ≡ history → IsReplayed n s → p.number ≡ 0
-      → StandsBeside n p (HasGoneOn n plans first start run now) → HasGoneOn n plans first start run now s
+      → HoldsAtPass n p (HasFollowedOn n plans first start run now) → HasFollowedOn n plans first start run now s
   run-at-take plans first start run now s is led number at =
-      let Holds = HasGoneOn n plans first start run now in
+      let Holds = HasFollowedOn n plans first start run now in
       let came : OthersCame n.threads 0 at.history s.history =
       subst (λ m. OthersCame n.threads m at.history s.history) number (subst (λ h. OthersCame n.threads p.number at.history h) (sym is) (others-came Holds at)) in
       record {
@@ -96,7 +96,7 @@ same-pass-back old new h taken rows is e = record {
 
 -- what holds of the hub's state as it is given back stands beside the pass
 pub stands-after : (n : Numbers) (new : PassState) (s1 : HubSeen) (Holds : HubSeen → Type 0) → IsLedHub n s1 → new.seen ≡ rows_of n.threads s1.history
-    → new.own ≡ own_rows new.number (rows_of n.threads s1.history) → Holds s1 → StandsBeside n new Holds
+    → new.own ≡ own_rows new.number (rows_of n.threads s1.history) → Holds s1 → HoldsAtPass n new Holds
 stands-after n new s1 Holds k seen own holds = record {
   history = s1.history;
   led = subst (λ s. IsReplayed n s) (sym (shown n s1 k)) k.led;
@@ -110,7 +110,7 @@ stands-after n new s1 Holds k seen own holds = record {
 
 -- BEFORE THE FIRST TURN
 -- what a pass without rows of its own stands for
-pub stands-at-first : (n : Numbers) (p : PassState) (Holds : HubSeen → Type 0) → p.own ≡ [] → Holds (hub_seen n []) → StandsBeside n p Holds
+pub stands-at-first : (n : Numbers) (p : PassState) (Holds : HubSeen → Type 0) → p.own ≡ [] → Holds (hub_seen n []) → HoldsAtPass n p Holds
 stands-at-first n p Holds own holds = record { history = []; led = record { replays = tt; hub = refl }; seen = (p.seen, refl); own = own; holds = holds }
 
 pub fresh-is-at : {J : Type 0} → (n : Numbers) (p : PassState) (a : ActorRun J) → IsFreshAtPass n p a → IsAtPass n p a

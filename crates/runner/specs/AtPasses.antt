@@ -12,7 +12,7 @@ use Rattle.env_loop.specs.RunsOverRows.{IsReplayed}
 use Rattle.env_loop.specs.declared.actor.ActorRun.{ActorRun}
 
 -- what the pass has seen begins with a history that replays. All its own rows are in that, and of the hub to which it has led this holds
-pub record StandsBeside (n : Numbers) (p : PassState) (Holds : HubSeen → Type 0) : Type 0 where
+pub record HoldsAtPass (n : Numbers) (p : PassState) (Holds : HubSeen → Type 0) : Type 0 where
   pub history : List Entry
   pub led : IsReplayed n (hub_seen n history)
   pub seen : IsPrefix (rows_of n.threads history) p.seen
@@ -23,7 +23,7 @@ module _ {J : Type 0} where
   -- the run of an actor beside its pass: the actor is one of the hub's, and the pass's own rows are exactly the entries that it made
   pub record IsAtPass (n : Numbers) (p : PassState) (a : ActorRun J) : Type 0 where
     pub number : p.number ≡ pass_of n.threads (actor_of a)
-    pub stands : StandsBeside n p (λ s. IsActorOf n s a)
+    pub stands : HoldsAtPass n p (λ s. IsActorOf n s a)
 
   -- the run of one of the hub's actors beside its pass, before its first turn
   pub record IsFreshAtPass (n : Numbers) (p : PassState) (a : ActorRun J) : Type 0 where

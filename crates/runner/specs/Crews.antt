@@ -10,7 +10,7 @@ use Rattle.env_loop.specs.Recording.{AddonStates}
 use Rattle.env_loop.specs.declared.actor.ActorRun.{ActorRun}
 use Rattle.runner.specs.declared.places.Places.{Places}
 use Rattle.runner.specs.declared.unstarted.Unstarted.{Unstarted}
-use Rattle.runner.specs.Environments.{HasGoneOnBeside, OfFirst}
+use Rattle.runner.specs.Environments.{HasFollowedOnAtPass, OfFirst}
 use Rattle.runner.specs.Places.{IsNumberedPass, AreUnstarted, AreAllBack}
 
 -- the runs of actors that wait
@@ -41,4 +41,4 @@ pub record IsLeft (J : Type 0) (n : Numbers) (h : TurnState) (crew : List Unstar
     (passes : List PassState) (after : AddonStates) : Type 0 where
   pub gone : env.core.env.phase ≡ phase.Gone
   pub back : AreAllBack n h (runs_of J crew) passes
-  pub ran : OfFirst passes (λ p. HasGoneOnBeside n plans opened before p env after)
+  pub ran : OfFirst passes (λ p. HasFollowedOnAtPass n plans opened before p env after)

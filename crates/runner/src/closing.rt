@@ -13,7 +13,7 @@ ghost use Rattle.env_loop.specs.Recording.{AddonStates};
 ghost use Rattle.env_loop.specs.RunsOverRows.{IsReplayed};
 ghost use Rattle.env_loop.specs.declared.actor.ActorRun.{ActorRun};
 ghost use Rattle.runner.specs.AtPasses.{IsAtPass};
-ghost use Rattle.runner.specs.Environments.{HasGoneOnBeside, OfFirst};
+ghost use Rattle.runner.specs.Environments.{HasFollowedOnAtPass, OfFirst};
 
 use async_work::Job;
 use env_loop::EnvRun;
@@ -37,7 +37,7 @@ pub fn close<J: Job, N: Naming>(hub: Hub<J, N>, passes: Vec<Pass>, env: EnvRun) 
 
     // What the environment recorded stands over the whole history, and came to its end.
     ensures ended { (plans : List Plan) (first : Run) (before after : AddonStates)
-        → OfFirst passes.items (λ p. HasGoneOnBeside N.numbers plans first before p env after) → EndsWhole N.numbers plans first before result after }
+        → OfFirst passes.items (λ p. HasFollowedOnAtPass N.numbers plans first before p env after) → EndsWhole N.numbers plans first before result after }
 
     // So does what each other actor did.
     ensures actors { All (λ p. (a : ActorRun J) → IsAtPass N.numbers p a → IsActorOf N.numbers (hub_seen N.numbers result.history) a) passes.items }

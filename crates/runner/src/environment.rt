@@ -8,11 +8,11 @@ ghost use Rattle.shared_hub.specs.KeptHubs.{IsLedHub};
 ghost use Rattle.hub_lock.specs.SeenTurns.{SamePass};
 ghost use Rattle.env_loop.specs.OpenedAndGone.{IsOpenedRun};
 ghost use Rattle.env_loop.specs.RecordedRuns.{Run, FitsHub};
-ghost use Rattle.env_loop.specs.FollowedRuns.{GoesOnAt};
+ghost use Rattle.env_loop.specs.FollowedRuns.{FollowsOnAt};
 ghost use Rattle.env_loop.specs.Recording.{AddonStates, states_of};
 ghost use Rattle.env_loop.specs.Turns.{needs_hub};
-ghost use Rattle.runner.specs.AtPasses.{StandsBeside};
-ghost use Rattle.runner.specs.Environments.{HasGoneOnBeside};
+ghost use Rattle.runner.specs.AtPasses.{HoldsAtPass};
+ghost use Rattle.runner.specs.Environments.{HasFollowedOnAtPass};
 ghost use Rattle.runner.specs.ActorsAtTheLock.{GrewByEntries, IsStray, IsFreshStray, IsSameStray, HasEndedStray};
 
 use crate::strays::{Stray, end_strays, turn_strays};
@@ -61,7 +61,7 @@ pub fn run_env<J: Job, N: Naming, R: Wait>(
     // their registers.
     ensures ran { let before = states_of (λ b. regs b) (λ b. seen b) addons.old.items in
         let after = states_of (λ b. regs b) (λ b. seen b) addons.new.items in
-        HasGoneOnBeside N.numbers (map (λ b. plan b) addons.old.items) env.old before pass.new env.new after }
+        HasFollowedOnAtPass N.numbers (map (λ b. plan b) addons.old.items) env.old before pass.new env.new after }
     ensures others { let n = env.old.core.env.addons in
         drop n (map (λ b. regs b) addons.new.items) ≡ drop n (map (λ b. regs b) addons.old.items) }
 
@@ -89,17 +89,17 @@ fn turn<J: Job, N: Naming, R: Wait>(
     requires lock { pass.old.lock ≡ hub.now.lock }
     requires free { pass.old.holds ≡ false }
     requires number { pass.old.number ≡ 0 }
-    requires fits { StandsBeside N.numbers pass.old (FitsHub env.old) }
+    requires fits { HoldsAtPass N.numbers pass.old (FitsHub env.old) }
     requires enough { env.old.core.env.addons ≤ length addons.old.items }
     requires strays { All (IsStray N.numbers hub.now) strays.old.items }
     ensures plans { TellSamePlans (λ b. plan b) addons.old.items addons.new.items }
     ensures same { SamePass pass.old pass.new }
-    ensures fits { StandsBeside N.numbers pass.new (FitsHub env.new) }
+    ensures fits { HoldsAtPass N.numbers pass.new (FitsHub env.new) }
     ensures ran { let before = states_of (λ b. regs b) (λ b. seen b) addons.old.items in
         let after = states_of (λ b. regs b) (λ b. seen b) addons.new.items in
         let plans = map (λ b. plan b) addons.old.items in
         (first : Run) (start : AddonStates) → first.core.env.addons ≡ env.old.core.env.addons
-        → HasGoneOnBeside N.numbers plans first start pass.old env.old before → HasGoneOnBeside N.numbers plans first start pass.new env.new after }
+        → HasFollowedOnAtPass N.numbers plans first start pass.old env.old before → HasFollowedOnAtPass N.numbers plans first start pass.new env.new after }
     ensures addons { env.new.core.env.addons ≡ env.old.core.env.addons }
     ensures others { let n = env.old.core.env.addons in
         drop n (map (λ b. regs b) addons.new.items) ≡ drop n (map (λ b. regs b) addons.old.items) }
@@ -148,17 +148,17 @@ fn turn_at_the_lock<J: Job, N: Naming, R: Wait>(
     requires lock { pass.old.lock ≡ hub.now.lock }
     requires free { pass.old.holds ≡ false }
     requires number { pass.old.number ≡ 0 }
-    requires fits { StandsBeside N.numbers pass.old (FitsHub env.old) }
+    requires fits { HoldsAtPass N.numbers pass.old (FitsHub env.old) }
     requires needs { needs_hub env.old }
     requires enough { env.old.core.env.addons ≤ length addons.old.items }
     ensures plans { TellSamePlans (λ b. plan b) addons.old.items addons.new.items }
     ensures same { SamePass pass.old pass.new }
-    ensures fits { StandsBeside N.numbers pass.new (FitsHub env.new) }
+    ensures fits { HoldsAtPass N.numbers pass.new (FitsHub env.new) }
     ensures ran { let before = states_of (λ b. regs b) (λ b. seen b) addons.old.items in
         let after = states_of (λ b. regs b) (λ b. seen b) addons.new.items in
         let plans = map (λ b. plan b) addons.old.items in
         (first : Run) (start : AddonStates) → first.core.env.addons ≡ env.old.core.env.addons
-        → HasGoneOnBeside N.numbers plans first start pass.old env.old before → HasGoneOnBeside N.numbers plans first start pass.new env.new after }
+        → HasFollowedOnAtPass N.numbers plans first start pass.old env.old before → HasFollowedOnAtPass N.numbers plans first start pass.new env.new after }
     ensures addons { env.new.core.env.addons ≡ env.old.core.env.addons }
     ensures others { let n = env.old.core.env.addons in
         drop n (map (λ b. regs b) addons.new.items) ≡ drop n (map (λ b. regs b) addons.old.items) }
@@ -185,7 +185,7 @@ fn turn_under_the_lock<J: Job, N: Naming>(
     ensures fits { FitsHub env.new locked.new.state.value }
     ensures goes { let before = states_of (λ b. regs b) (λ b. seen b) addons.old.items in
         let after = states_of (λ b. regs b) (λ b. seen b) addons.new.items in
-        GoesOnAt N.numbers (map (λ b. plan b) addons.old.items) env.old locked.old.state.value.history before env.new locked.new.state.value.history after }
+        FollowsOnAt N.numbers (map (λ b. plan b) addons.old.items) env.old locked.old.state.value.history before env.new locked.new.state.value.history after }
     ensures addons { env.new.core.env.addons ≡ env.old.core.env.addons }
     ensures others { let n = env.old.core.env.addons in
         drop n (map (λ b. regs b) addons.new.items) ≡ drop n (map (λ b. regs b) addons.old.items) }

@@ -25,7 +25,7 @@ use Rattle.env_loop.specs.declared.run.HubTurn.TheVariants as turn
 use Rattle.env_loop.specs.declared.turn.LocalTurn.TheVariants as local
 use Rattle.env_loop.specs.ActorRuns.{AddsEntryOf}
 use Rattle.env_loop.specs.HubTurns.{SpentAtFinals}
-use Rattle.env_loop.specs.FollowedRuns.{RunGoesOn}
+use Rattle.env_loop.specs.FollowedRuns.{FollowsOn}
 use Rattle.env_loop.specs.Recording.{AddonStates, HasSeen}
 use Rattle.env_loop.specs.RecordedRuns.{Run, OneMore, FitsHub, pending_at_hub}
 use Rattle.env_loop.specs.Turns.{IfCut, Awaits, begins_at_hub, next_ticket_info, turn_of, hub_duty_info_of, hub_event, turn_after, needs_hub, OnlyInnermostChanges, OnlyPendingChanged}
@@ -205,8 +205,8 @@ turned-from n r owing new before after all mid now registers seen t = subst (λ 
 
 -- the run that has something pending is gone on to by the same addons
 pub goes-same : (plans : List Plan) (old owing : Run) (all mid : AddonStates) → mid.registers ≡ all.registers → mid.seen ≡ all.seen
-    → ((history : List Entry) → RunGoesOn plans old history all owing history mid) → (history : List Entry) → RunGoesOn plans old history all owing history all
-goes-same plans old owing all mid registers seen goes history = subst (λ (a : AddonStates). RunGoesOn plans old history all owing history a) same (goes history)
+    → ((history : List Entry) → FollowsOn plans old history all owing history mid) → (history : List Entry) → FollowsOn plans old history all owing history all
+goes-same plans old owing all mid registers seen goes history = subst (λ (a : AddonStates). FollowsOn plans old history all owing history a) same (goes history)
   where
     same : mid ≡ all
     same = ap (λ rs. record { registers = rs; seen = mid.seen }) registers ∙ ap (λ ss. record { registers = all.registers; seen = ss }) seen

@@ -40,7 +40,7 @@ use Rattle.env_loop.specs.declared.turn.LocalTurn.{LocalTurn}
 use Rattle.env_loop.specs.declared.turn.LocalTurn.TheVariants as turn
 use Rattle.env_loop.specs.ActorRuns.{NextWaits, calls_left, worker_state}
 use Rattle.env_loop.specs.ActorTurns.{actor_of, is_over, IsActorOf, IsSameActor, IsBlocked}
-use Rattle.env_loop.specs.FollowedRuns.{MayEndSo, IsFollowed, IsRecordedRun, HasNumbers, taken_in}
+use Rattle.env_loop.specs.FollowedRuns.{MayEndSo, IsFollowed, IsRecordedWithPending, HasNumbers, taken_in}
 use Rattle.env_loop.specs.Recording.{AddonStates, machine_of}
 use Rattle.env_loop.specs.RecordedRuns.{Run, pending_at_hub}
 use Rattle.env_loop.specs.Turns.{turn_at}
@@ -71,14 +71,15 @@ abbrev Rests : Machine → Type 0
 Rests m = (m.env.phase ≡ phase.Gone) ⊎ ((m.env.frames ≡ []) × (choice m ≡ None))
 
 at-rest : (s : Setting) (r : Run) (history : List Entry) (all : AddonStates) (firsts : List (List DueInfo)) (stopped : Bool)
-    → IsRecordedRun s (taken_in history r) history all firsts → Rests (machine_of s.limits (taken_in history r).core (hub_along (opening_of s).hub history) history)
+    → IsRecordedWithPending s (taken_in history r) history all firsts → Rests
+    (machine_of s.limits (taken_in history r).core (hub_along (opening_of s).hub history) history)
     → IsAtRest s (both r.core.journal history stopped)
 at-rest s r history all firsts stopped k rests =
     record { so_far = record { asks = k.recorded.asks; run = k.recorded.run }; rest = subst Rests (sym k.recorded.final) rests }
 
 -- a frame that is to be cut at a call was stopped there
 was-stopped : (s : Setting) (r : Run) (history : List Entry) (all : AddonStates) (firsts : List (List DueInfo)) (stopped : Bool) (w : Why)
-    → IsRecordedRun s (taken_in history r) history all firsts → r.ending ≡ Some (end.Cut w) → w ≢ why.Asks
+    → IsRecordedWithPending s (taken_in history r) history all firsts → r.ending ≡ Some (end.Cut w) → w ≢ why.Asks
     → MayBeStopped s (both r.core.journal history stopped)
 was-stopped s r history all firsts stopped w k owed unspent =
     let m : Machine = machine_of s.limits (taken_in history r).core (hub_along (opening_of s).hub history) history in
@@ -108,7 +109,7 @@ module _ (n : Numbers) (plans : List Plan) (old new : RunAtHub) (s : Setting) (f
   abbrev lists : RunAtHub → BothLists
   lists m = both m.run.core.journal m.hub.history (is_some m.run.ending)
 
-  here : IsRecordedRun s (taken_in old.hub.history old.run) old.hub.history old.addons firsts
+  here : IsRecordedWithPending s (taken_in old.hub.history old.run) old.hub.history old.addons firsts
   here = others-taken-in s old.run old.hub.history old.addons firsts (replays-in n s old.hub led numbers) before
 
   hub : hub_along (opening_of s).hub old.hub.history ≡ old.hub.hub

@@ -19,7 +19,7 @@ use Rattle.shared_hub.specs.KeptHubs.{IsLedHub}
 use Rattle.shared_hub.specs.declared.naming.Numbers.{Numbers}
 use Rattle.env_loop.specs.declared.actor.ActorRun.{ActorRun}
 use Rattle.env_loop.specs.ActorTurns.{actor_of, is_over, IsActorAt, IsActorOf, IsFreshActor}
-use Rattle.env_loop.specs.FollowedRuns.{GoesOnAt, IsFollowed}
+use Rattle.env_loop.specs.FollowedRuns.{FollowsOnAt, IsFollowed}
 use Rattle.env_loop.specs.RecordedRuns.{Run, FitsHub}
 use Rattle.env_loop.proofs.HubGoing.{replays-in, gone-ended}
 use Rattle.env_loop.specs.OpenedAndGone.{IsOpenedRun, EndsWhole}
@@ -81,8 +81,9 @@ pub ended-at-last : {J : Type 0} (n : Numbers) (plans : List Plan) (start : RunA
     → last.env.run.core.env.phase ≡ phase.Gone → IsLedHub n m.env.hub
     → EndsWhole n plans start.run start.addons (record { journal = m.env.run.core.journal; history = m.env.hub.history }) m.env.addons
 ended-at-last {J = J} n plans start last m empty kept same gone led =
-    let goes : GoesOnAt n plans start.run [] start.addons last.env.run last.env.hub.history last.env.addons =
-    subst (λ xs. GoesOnAt n plans start.run xs start.addons last.env.run last.env.hub.history last.env.addons) (ap (λ (s : HubSeen). s.history) empty) kept.goes in
+    let goes : FollowsOnAt n plans start.run [] start.addons last.env.run last.env.hub.history last.env.addons =
+    subst (λ xs. FollowsOnAt n plans start.run xs start.addons last.env.run last.env.hub.history last.env.addons)
+    (ap (λ (s : HubSeen). s.history) empty) kept.goes in
     let there : IsLedHub n last.env.hub = subst (λ (k : Moment J). IsLedHub n k.env.hub) same led in
     let P : Moment J → Type 0 = λ k. EndsWhole n plans start.run start.addons (record { journal = k.env.run.core.journal; history = k.env.hub.history }) k.env.addons in
     subst P (sym same) (λ s firsts numbers of followed.

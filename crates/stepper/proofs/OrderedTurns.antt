@@ -23,7 +23,7 @@ use Rattle.shared_hub.specs.KeptHubs.{IsLedHub}
 use Rattle.shared_hub.specs.declared.naming.Numbers.{Numbers}
 use Rattle.env_loop.specs.ActorRuns.{AddsEntryOf}
 use Rattle.env_loop.specs.ActorTurns.{actor_of, is_over, IsActorOf, IsSameActor, with_work_executed}
-use Rattle.env_loop.specs.FollowedRuns.{GoesOnAt, IsFollowed, HasNumbers}
+use Rattle.env_loop.specs.FollowedRuns.{FollowsOnAt, IsFollowed, HasNumbers}
 use Rattle.env_loop.specs.Recording.{AddonStates}
 use Rattle.env_loop.specs.RecordedRuns.{Run, FitsHub}
 use Rattle.env_loop.specs.declared.actor.ActorRun.{ActorRun}
@@ -42,7 +42,7 @@ use Rattle.stepper.proofs.ListTurns.{turns-then, lists-turn, has-same, all-have,
 
 -- THE ENVIRONMENT
 pub goes-then : (n : Numbers) (plans : List Plan) (old mid new : Run) (xs ys zs : List Entry) (all now later : AddonStates) → mid.core.env.addons ≡ old.core.env.addons
-    → GoesOnAt n plans old xs all mid ys now → GoesOnAt n plans mid ys now new zs later → GoesOnAt n plans old xs all new zs later
+    → FollowsOnAt n plans old xs all mid ys now → FollowsOnAt n plans mid ys now new zs later → FollowsOnAt n plans old xs all new zs later
 goes-then n plans old mid new xs ys zs all now later same first second s firsts numbers of followed =
     second s firsts numbers (record { count = of.count ∙ sym same; first = of.first }) (first s firsts numbers of followed)
 
@@ -271,7 +271,7 @@ module _ {J : Type 0} where
     fits-after (inr stays) = subst (FitsHub m.env.run) (sym stays.hub) stands.env.fits
 
     goes-after : (plans : List Plan) → ActorTurns n (get_or m.actors place s.actor) before s.actor after
-        → GoesOnAt n plans m.env.run before.history m.env.addons m.env.run after.history m.env.addons
+        → FollowsOnAt n plans m.env.run before.history m.env.addons m.env.run after.history m.env.addons
     goes-after plans (inl made) = λ t firsts numbers of followed.
         subst (λ xs. IsFollowed t m.env.run xs m.env.addons firsts) (sym made.one.adds.history)
         (others-may-add t m.env.run before.history (one made.one.entry) m.env.addons firsts followed

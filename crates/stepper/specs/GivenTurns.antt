@@ -20,7 +20,7 @@ use Rattle.env_loop.specs.declared.run.FrameEnd.TheVariants as end
 use Rattle.env_loop.specs.declared.turn.LocalTurn.TheVariants as local
 use Rattle.env_loop.specs.ActorRuns.{AddsEntryOf}
 use Rattle.env_loop.specs.ActorTurns.{actor_of, is_over, HoldsNoneExecuted, IsActorOf, IsSameActor, IsBlocked, StoppedSo, with_work_executed}
-use Rattle.env_loop.specs.FollowedRuns.{RunGoesOn, GoesOnAt}
+use Rattle.env_loop.specs.FollowedRuns.{FollowsOn, FollowsOnAt}
 use Rattle.env_loop.specs.Recording.{AddonStates, HasSeen}
 use Rattle.env_loop.specs.RecordedRuns.{Run, OneMore, pending_at_hub}
 use Rattle.env_loop.specs.Turns.{turn_after, needs_hub, next_ticket_info, begins_at_hub, hub_event, Awaits, OnlyInnermostChanges, OnlyPendingChanged}
@@ -52,7 +52,7 @@ pub record ComesToTheHub (plans : List Plan) (all : AddonStates) (old owing : Ru
   pub owes : OnlyPendingChanged old owing
   pub once : IsTrue (pending_at_hub old) → owing ≡ old
   pub stays : pending_at_hub owing ≡ false → owing ≡ old
-  pub goes : (history : List Entry) → RunGoesOn plans old history all owing history all
+  pub goes : (history : List Entry) → FollowsOn plans old history all owing history all
 
 -- it made one entry of the history, and no end is pending after it
 pub record MakesAtHub (plans : List Plan) (old new : RunAtHub) : Type 0 where
@@ -137,7 +137,7 @@ module _ {J : Type 0} where
   -- the environment made its turn, so that whatever run was followed goes on, and the threads and workers are as before
   pub record TurnOfEnvironment (n : Numbers) (plans : List Plan) (old new : Moment J) : Type 0 where
     pub turn : EnvironmentTurns n plans old.env new.env
-    pub goes : GoesOnAt n plans old.env.run old.env.hub.history old.env.addons new.env.run new.env.hub.history new.env.addons
+    pub goes : FollowsOnAt n plans old.env.run old.env.hub.history old.env.addons new.env.run new.env.hub.history new.env.addons
     pub actors : new.actors ≡ old.actors
 
   abbrev pub TurnOf : Numbers → List Plan → Actor → Moment J → Moment J → Type 0

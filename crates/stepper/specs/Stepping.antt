@@ -10,7 +10,7 @@ use Rattle.shared_hub.specs.declared.naming.Numbers.{Numbers}
 use Rattle.shared_hub.specs.HubStates.{HubSeen}
 use Rattle.shared_hub.specs.KeptHubs.{IsLedHub}
 use Rattle.env_loop.specs.ActorTurns.{actor_of, is_over, IsActorOf, IsBlocked, IsSameActor, with_work_executed}
-use Rattle.env_loop.specs.FollowedRuns.{GoesOnAt}
+use Rattle.env_loop.specs.FollowedRuns.{FollowsOnAt}
 use Rattle.env_loop.specs.HubTurns.{SpentAtFinals}
 use Rattle.env_loop.specs.RecordedRuns.{Run, FitsHub}
 use Rattle.env_loop.specs.declared.actor.ActorRun.{ActorRun}
@@ -38,7 +38,7 @@ pub record RunKeeps (n : Numbers) (plans : List Plan) (old new : RunAtHub) : Typ
   pub addons : new.run.core.env.addons ≡ old.run.core.env.addons
   pub limit : new.run.core.limit ≡ old.run.core.limit
   pub others : drop old.run.core.env.addons new.addons.registers ≡ drop old.run.core.env.addons old.addons.registers
-  pub goes : GoesOnAt n plans old.run old.hub.history old.addons new.run new.hub.history new.addons
+  pub goes : FollowsOnAt n plans old.run old.hub.history old.addons new.run new.hub.history new.addons
 
 -- a turn of the environment, by what its own turn came to: it was of one of the kinds, kept what all turns keep, and unless the environment was gone or idle
 -- it came nearer to the end. Where it made its entry alone the hub is as it was

@@ -6,7 +6,7 @@ ghost use Rattle.addon_trait.specs.Addons.{TellSamePlans};
 ghost use Rattle.shared_hub.specs.HubStates.{hub_seen};
 ghost use Rattle.env_loop.specs.ActorTurns.{actor_of, is_over, IsActorAt, IsActorOf, IsFreshActor, IsSameActor};
 ghost use Rattle.env_loop.specs.OpenedAndGone.{IsOpenedRun, EndsWhole};
-ghost use Rattle.env_loop.specs.FollowedRuns.{GoesOnAt};
+ghost use Rattle.env_loop.specs.FollowedRuns.{FollowsOnAt};
 ghost use Rattle.env_loop.specs.Recording.{states_of};
 ghost use Rattle.stepper.specs.TakingPart.{actors_of, turns_of, rounds_of};
 ghost use Rattle.stepper.specs.GivenTurns.{run_at, moment_of, TurnsThrough};
@@ -57,7 +57,7 @@ pub fn step_all<J: Job, N: Naming>(
     // script keep their registers.
     ensures goes { let before = states_of (λ b. regs b) (λ b. seen b) addons.old.items in
         let after = states_of (λ b. regs b) (λ b. seen b) addons.new.items in
-        GoesOnAt N.numbers (map (λ b. plan b) addons.old.items) env.old [] before env.new hub.new.history after }
+        FollowsOnAt N.numbers (map (λ b. plan b) addons.old.items) env.old [] before env.new hub.new.history after }
     ensures ended { let before = states_of (λ b. regs b) (λ b. seen b) addons.old.items in
         let after = states_of (λ b. regs b) (λ b. seen b) addons.new.items in
         let left : Record = record { journal = env.new.core.journal; history = hub.new.history } in

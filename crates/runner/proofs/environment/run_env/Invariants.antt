@@ -4,7 +4,7 @@ use Rattle.napi_types.specs.declared.duties.DueInfo.{DueInfo}
 use Rattle.napi_types.specs.declared.op.Op.{Op}
 use Rattle.addon_trait.specs.Addons.{TellSamePlans}
 use Rattle.hub_lock.specs.SeenTurns.{SamePass}
-use Rattle.runner.specs.Environments.{HasGoneOnBeside}
+use Rattle.runner.specs.Environments.{HasFollowedOnAtPass}
 use Rattle.runner.specs.ActorsAtTheLock.{IsStray, IsSameStray}
 use Rattle.runner.proofs.environment.run_env.Given as goal
 
@@ -21,7 +21,8 @@ invariant-loop g l =
     × record {
       plans : TellSamePlans (λ b. (goal.Addon-dyn g (b.vtable, b.value)).plan b.value) l.fn.addons.items l.addons.items;
       same : SamePass l.fn.pass l.pass;
-      ran : HasGoneOnBeside g.N.Naming.numbers first_plans l.fn.env (record { registers = first_regs; seen = first_seen }) l.pass l.env (record { registers = regs; seen = seen });
+      ran : HasFollowedOnAtPass g.N.Naming.numbers first_plans l.fn.env (record { registers = first_regs; seen = first_seen }) l.pass l.env
+          (record { registers = regs; seen = seen });
       addons : l.env.core.env.addons ≡ l.fn.env.core.env.addons;
       others : drop l.fn.env.core.env.addons regs ≡ drop l.fn.env.core.env.addons first_regs;
       strays : All (IsStray g.N.Naming.numbers l.hub) l.strays.items;

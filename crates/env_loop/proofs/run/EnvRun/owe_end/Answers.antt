@@ -1,6 +1,6 @@
 use Rattle.std.proofs.Common.{Some, sym, subst}
 use Rattle.env_core.specs.Standing.{machine_frame}
-use Rattle.env_loop.specs.FollowedRuns.{RunGoesOn}
+use Rattle.env_loop.specs.FollowedRuns.{FollowsOn}
 use Rattle.env_loop.specs.RecordedRuns.{Run, IsRunning}
 use Rattle.env_loop.proofs.Bursts.{silent-running, silent-owed}
 use Rattle.env_loop.proofs.run.EnvRun.owe_end.Goals as goal
@@ -14,6 +14,6 @@ invariant_of-self c =
 pub returns-clause-goes : goal.returns-clause-goes
 returns-clause-goes c = λ plans all history.
     let run : Run = record { core = c.self.inside.core; begun = c.self.inside.begun; ending = c.self.inside.ending } in
-    subst (λ how. RunGoesOn plans c.args.self.now history all (record run { ending = Some how }) history all) (sym c.end_of.ensures)
+    subst (λ how. FollowsOn plans c.args.self.now history all (record run { ending = Some how }) history all) (sym c.end_of.ensures)
     (silent-owed run c.args.self.now (machine_frame c.in-Some.frame) c.self.view_is c.self.invariant c.requires.paid c.requires.comes (sym c.in-Some.ensures.frame) plans all
     history)
