@@ -10,7 +10,7 @@ pub mod EventTurns
 pub mod Finals
 pub mod FollowedRuns
 pub mod FrameTurns
-pub mod FreshAndEnded
+pub mod UnstartedAndEnded
 pub mod HandedOver
 pub mod HubGoing
 pub mod LocalGoing

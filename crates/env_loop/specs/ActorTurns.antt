@@ -9,8 +9,8 @@ use Rattle.shared_hub.specs.declared.naming.Numbers.{Numbers}
 use Rattle.env_loop.specs.ActorRuns.{new_thread, new_worker, calls_left, IsThreadOf, SameThread, ThreadBlocked, StoppedAt, IsWorkerOf, IsHandsReady, IsUnexecuted, IsHandsFree, held_executed}
 use Rattle.env_loop.specs.declared.actor.ActorRun.{ActorRun}
 use Rattle.env_loop.specs.declared.actor.ActorRun.TheVariants as run
-use Rattle.env_loop.specs.declared.actor.fresh.FreshActor.{FreshActor}
-use Rattle.env_loop.specs.declared.actor.fresh.FreshActor.TheVariants as idle
+use Rattle.env_loop.specs.declared.actor.unstarted.UnstartedActor.{UnstartedActor}
+use Rattle.env_loop.specs.declared.actor.unstarted.UnstartedActor.TheVariants as idle
 
 -- the environment, or one of the threads or of the workers
 abbrev pub IsActorAt : Numbers → Actor → Type 0
@@ -74,11 +74,11 @@ module _ {J : Type 0} where
   StoppedSo n s (run.OfWorker w) = Unit {0}
 
   -- no turn of it was made
-  abbrev pub IsFreshActor : ActorRun J → Type 0
-  IsFreshActor (run.OfThread t) = t ≡ new_thread t.number t.operations
-  IsFreshActor (run.OfWorker w) = w ≡ new_worker w.number
+  abbrev pub IsUnstartedActor : ActorRun J → Type 0
+  IsUnstartedActor (run.OfThread t) = t ≡ new_thread t.number t.operations
+  IsUnstartedActor (run.OfWorker w) = w ≡ new_worker w.number
 
   -- the run of an actor, before its first turn
-  abbrev pub fresh_run : FreshActor → ActorRun J
-  fresh_run (idle.Thread t) = run.OfThread t
-  fresh_run (idle.Worker w) = run.OfWorker (new_worker w)
+  abbrev pub unstarted_run : UnstartedActor → ActorRun J
+  unstarted_run (idle.Thread t) = run.OfThread t
+  unstarted_run (idle.Worker w) = run.OfWorker (new_worker w)

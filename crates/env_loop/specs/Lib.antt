@@ -2,7 +2,6 @@ pub mod ActorRuns
 pub mod ActorTurns
 pub mod Bursts
 pub mod FollowedRuns
-pub mod FreshAndEnded
 pub mod HeldWorks
 pub mod HubTurns
 pub mod OpenedAndGone
@@ -11,3 +10,4 @@ pub mod Recording
 pub mod RunsOverRows
 pub mod SharedEntries
 pub mod Turns
+pub mod UnstartedAndEnded

@@ -2,18 +2,18 @@
 ghost use Rattle.std.specs.Prelude.{◌≡◌, ◌≢◌, ◌↔◌, ◌≤◌, length, true, IsTrue};
 ghost use Rattle.std.specs.List.{All};
 ghost use Rattle.env_loop.specs.ActorRuns.{IsOperationOfThread, new_thread, new_worker, AddsEntryOf};
-ghost use Rattle.env_loop.specs.ActorTurns.{actor_of, is_over, IsActorOf, IsReady, HoldsNoneExecuted, HoldsNoWork, with_work_executed, IsSameActor, IsFreshActor, fresh_run, IsBlocked, StoppedSo};
+ghost use Rattle.env_loop.specs.ActorTurns.{actor_of, is_over, IsActorOf, IsReady, HoldsNoneExecuted, HoldsNoWork, with_work_executed, IsSameActor, IsUnstartedActor, unstarted_run, IsBlocked, StoppedSo};
 
-mod fresh;
 pub mod standing;
 mod thread;
+mod unstarted;
 mod worker;
 
 use async_work::Job;
-pub use fresh::{FreshActor, FreshThread};
 use napi_types::OpList;
 use shared_hub::{HubState, Naming};
 pub use thread::ThreadRun;
+pub use unstarted::{UnstartedActor, UnstartedThread};
 pub use worker::WorkerRun;
 
 /// What a turn of a thread or a worker comes out as.
@@ -106,13 +106,13 @@ impl<J: Job> ActorRun<J> {
     }
 
     /// What it is made of, where no turn of it was made.
-    pub fn into_fresh(self) -> FreshActor
-        requires { IsFreshActor self }
-        ensures { fresh_run result ≡ self }
+    pub fn into_unstarted(self) -> UnstartedActor
+        requires { IsUnstartedActor self }
+        ensures { unstarted_run result ≡ self }
     {
         match self {
-            ActorRun::OfThread(thread) => FreshActor::Thread(thread.into_fresh()),
-            ActorRun::OfWorker(worker) => FreshActor::Worker(worker.into_number()),
+            ActorRun::OfThread(thread) => UnstartedActor::Thread(thread.into_unstarted()),
+            ActorRun::OfWorker(worker) => UnstartedActor::Worker(worker.into_number()),
         }
     }
 
@@ -127,17 +127,17 @@ impl<J: Job> ActorRun<J> {
     }
 }
 
-impl FreshActor {
+impl UnstartedActor {
     /// Its run, before its first turn.
     pub fn into_run<J: Job>(self) -> ActorRun<J>
-        ensures { result ≡ fresh_run self }
+        ensures { result ≡ unstarted_run self }
     {
         match self {
-            FreshActor::Thread(thread) => {
+            UnstartedActor::Thread(thread) => {
                 let (number, operations) = thread.into_parts();
                 ActorRun::thread(number, operations)
             }
-            FreshActor::Worker(number) => ActorRun::worker(number),
+            UnstartedActor::Worker(number) => ActorRun::worker(number),
         }
     }
 }

@@ -11,7 +11,9 @@ pub mod recorded_laws;
 mod run;
 mod turn;
 
-pub use actor::{ActorRun, ActorTurn, FreshActor, FreshThread, NextStep, ThreadRun, WorkerRun};
+pub use actor::{
+    ActorRun, ActorTurn, NextStep, ThreadRun, UnstartedActor, UnstartedThread, WorkerRun,
+};
 pub use burst::Burst;
 pub use run::{EnvRun, FrameEnd, HubTurn};
 pub use turn::LocalTurn;

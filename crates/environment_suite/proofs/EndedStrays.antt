@@ -10,8 +10,8 @@ use Rattle.env_loop.specs.ActorTurns.{is_over, HoldsNoWork}
 use Rattle.env_loop.specs.declared.actor.ActorRun.{ActorRun}
 use Rattle.runner.specs.declared.strays.Stray.{Stray}
 use Rattle.runner.specs.AtPasses.{IsAtPass}
-use Rattle.runner.specs.ActorsAtTheLock.{IsFreshStray, HasEndedStray}
-use Rattle.env_loop.proofs.FreshAndEnded.{ended-actors-hold-none}
+use Rattle.runner.specs.ActorsAtTheLock.{IsUnstartedStray, HasEndedStray}
+use Rattle.env_loop.proofs.UnstartedAndEnded.{ended-actors-hold-none}
 
 module _ {J : Type 0} where
   abbrev HasNone : Stray J → Type 0
@@ -38,10 +38,12 @@ module _ {J : Type 0} where
   still-free n [] (v ∷ vs) x = absurd x
   still-free n (u ∷ us) [] x = absurd x
 
-  still-locked : (n : Numbers) (h : TurnState) (us vs : List (Stray J)) → All (IsFreshStray n h) us → AllZip (HasEndedStray n) us vs → All (λ p. p.lock ≡ h.lock) (map (λ s. s.pass) vs)
+  still-locked : (n : Numbers) (h : TurnState) (us vs : List (Stray J)) → All (IsUnstartedStray n h) us → AllZip (HasEndedStray n) us vs → All
+      (λ p. p.lock ≡ h.lock) (map (λ s. s.pass) vs)
   still-locked n h [] [] fresh x = All-nil (λ p. p.lock ≡ h.lock)
-  still-locked n h (u ∷ us) (v ∷ vs) fresh x = All-cons (λ p. p.lock ≡ h.lock) v.pass (map (λ s. s.pass) vs) (x.0.same.pass.lock ∙ (All-head (IsFreshStray n h) u us fresh).lock)
-      (still-locked n h us vs (All-tail (IsFreshStray n h) u us fresh) x.1)
+  still-locked n h (u ∷ us) (v ∷ vs) fresh x = All-cons (λ p. p.lock ≡ h.lock) v.pass (map (λ s. s.pass) vs)
+      (x.0.same.pass.lock ∙ (All-head (IsUnstartedStray n h) u us fresh).lock)
+      (still-locked n h us vs (All-tail (IsUnstartedStray n h) u us fresh) x.1)
   still-locked n h [] (v ∷ vs) fresh x = absurd x
   still-locked n h (u ∷ us) [] fresh x = absurd x
 
@@ -53,5 +55,5 @@ module _ {J : Type 0} where
     pub free-back : All (λ p. p.holds ≡ false) (back ∷ map (λ s. s.pass) vs)
     free-back = All-cons (λ p. p.holds ≡ false) back (map (λ s. s.pass) vs) same.free (still-free n us vs ended)
 
-    pub locked-back : first.lock ≡ h.lock → All (IsFreshStray n h) us → All (λ p. p.lock ≡ h.lock) (back ∷ map (λ s. s.pass) vs)
+    pub locked-back : first.lock ≡ h.lock → All (IsUnstartedStray n h) us → All (λ p. p.lock ≡ h.lock) (back ∷ map (λ s. s.pass) vs)
     locked-back of-h fresh = All-cons (λ p. p.lock ≡ h.lock) back (map (λ s. s.pass) vs) (same.lock ∙ of-h) (still-locked n h us vs fresh ended)

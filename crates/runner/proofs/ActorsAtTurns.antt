@@ -14,7 +14,7 @@ use Rattle.env_loop.specs.declared.actor.ActorRun.TheVariants as run
 use Rattle.env_loop.specs.declared.actor.ActorTurn.{ActorTurn}
 use Rattle.env_loop.specs.declared.actor.ActorTurn.TheVariants as turn
 use Rattle.env_loop.proofs.Bursts.{no-entries, one-entry, entries-then}
-use Rattle.env_loop.proofs.FreshAndEnded.{ended-actors-hold-none}
+use Rattle.env_loop.proofs.UnstartedAndEnded.{ended-actors-hold-none}
 use Rattle.env_loop.proofs.SameActors.{same-actor-then}
 use Rattle.runner.specs.AtPasses.{IsAtPass}
 use Rattle.runner.specs.ActorsAtTheLock.{GrewByEntries, AfterTurn, AfterBurst}

@@ -23,7 +23,7 @@ use Rattle.env_loop.specs.OpenedAndGone.{IsOpenedRun}
 use Rattle.env_loop.specs.RecordedRuns.{Run, FitsHub, pending_at_hub}
 use Rattle.env_loop.specs.Recording.{AddonStates}
 use Rattle.env_loop.specs.Turns.{event_turn, turn_at, turn_of, turn_after, OnlyPendingChanged}
-use Rattle.env_loop.proofs.FreshAndEnded.{opened-runs-fit}
+use Rattle.env_loop.proofs.UnstartedAndEnded.{opened-runs-fit}
 use Rattle.runner.specs.AtPasses.{HoldsAtPass}
 use Rattle.runner.specs.ActorsAtTheLock.{GrewByEntries}
 use Rattle.runner.specs.Environments.{HasFollowedOn, HasFollowedOnAtPass}

@@ -4,9 +4,9 @@ use Rattle.std.proofs.lemmas.List.{append-nil}
 use Rattle.turn_lock.specs.Passes.{PassState, TurnState}
 use Rattle.shared_hub.specs.declared.naming.Numbers.{Numbers}
 use Rattle.shared_hub.specs.HubStates.{hub_seen}
-use Rattle.env_loop.specs.ActorTurns.{fresh_run, HoldsNoWork}
+use Rattle.env_loop.specs.ActorTurns.{unstarted_run, HoldsNoWork}
 use Rattle.env_loop.specs.declared.actor.ActorRun.{ActorRun}
-use Rattle.env_loop.proofs.FreshAndEnded.{ended-actors-hold-none}
+use Rattle.env_loop.proofs.UnstartedAndEnded.{ended-actors-hold-none}
 use Rattle.runner.specs.declared.start.Child.{Child}
 use Rattle.runner.specs.declared.start.Child.TheVariants as child
 use Rattle.runner.specs.declared.strays.Stray.{Stray}
@@ -19,7 +19,8 @@ use Rattle.runner.proofs.FilledPlaces.{back-is}
 module _ {J : Type 0} where
   -- the pass of a given actor that was run comes back as its own
   pub given-back : (n : Numbers) (h : TurnState) (k : ℕ) (a : ActorRun J) (w : Unstarted) (p : PassState) → IsGiven n h k a w → KeepsActor J n w (back.Ran p) → IsBack n h k a p
-  given-back n h k a w p i keeps = subst (λ b. IsBack n h k b p) i.actor (subst (λ m. IsBack n h m (fresh_run {J = J} w.actor) p) i.number (back-is n h w p i.waits keeps))
+  given-back n h k a w p i keeps = subst (λ b. IsBack n h k b p) i.actor
+      (subst (λ m. IsBack n h m (unstarted_run {J = J} w.actor) p) i.number (back-is n h w p i.waits keeps))
 
   -- a stray that has ended holds no work, and its pass comes back as its own
   pub stray-holds-none : (n : Numbers) (h : TurnState) (k : ℕ) (a : ActorRun J) (s : Stray J) → IsEndedAt n h k a s → HoldsNoWork s.actor

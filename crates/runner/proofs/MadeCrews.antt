@@ -16,10 +16,10 @@ use Rattle.shared_hub.specs.HubStates.{HubSeen, led_by}
 use Rattle.shared_hub.specs.KeptHubs.{IsLedHub}
 use Rattle.shared_hub.proofs.ActorsLeft.{all-are-left}
 use Rattle.env_loop.specs.ActorRuns.{IsHandsFree}
-use Rattle.env_loop.specs.ActorTurns.{actor_of, actors_of, fresh_run, HoldsNoWork, IsActorAt, IsFreshActor}
+use Rattle.env_loop.specs.ActorTurns.{actor_of, actors_of, unstarted_run, HoldsNoWork, IsActorAt, IsUnstartedActor}
 use Rattle.env_loop.specs.declared.actor.ActorRun.{ActorRun}
 use Rattle.env_loop.specs.declared.actor.ActorRun.TheVariants as run
-use Rattle.env_loop.specs.declared.actor.fresh.FreshActor.{FreshActor}
+use Rattle.env_loop.specs.declared.actor.unstarted.UnstartedActor.{UnstartedActor}
 use Rattle.runner.specs.declared.unstarted.Unstarted.{Unstarted}
 use Rattle.runner.specs.Crews.{runs_of, IsCrew}
 use Rattle.runner.specs.Places.{AreUnstarted}
@@ -32,10 +32,10 @@ made-more f done done' x y left left' all grown is next e =
     ∙ ap (λ z. map f done ++ z ∷ left') is ∙ ap (λ ys. map f done ++ ys) (sym next) ∙ e
 
 -- an actor of which no turn was made holds no work
-pub fresh_hold_no_work : {J : Type 0} (actors : List (ActorRun J)) → All IsFreshActor actors → All HoldsNoWork actors
-fresh_hold_no_work {J} actors fresh = All-weaker IsFreshActor HoldsNoWork one actors fresh
+pub unstarted_hold_no_work : {J : Type 0} (actors : List (ActorRun J)) → All IsUnstartedActor actors → All HoldsNoWork actors
+unstarted_hold_no_work {J} actors fresh = All-weaker IsUnstartedActor HoldsNoWork one actors fresh
   where
-    one : (a : ActorRun J) → IsFreshActor a → HoldsNoWork a
+    one : (a : ActorRun J) → IsUnstartedActor a → HoldsNoWork a
     one (run.OfThread t) f = tt
     one (run.OfWorker w) f = subst (λ v. IsHandsFree v.held) (sym f) tt
 
@@ -87,55 +87,55 @@ actors-many n =
     workers = map (λ w. actor.Worker w) (range_with_len 0 n.workers)
 
 -- who waits is as many as there were
-pub unstarted-many : (crew : List Unstarted) (idle : List FreshActor) → map (λ w. w.actor) crew ≡ idle → length crew ≡ length idle
+pub unstarted-many : (crew : List Unstarted) (idle : List UnstartedActor) → map (λ w. w.actor) crew ≡ idle → length crew ≡ length idle
 unstarted-many crew idle is = sym (length-map crew (λ w. w.actor)) ∙ ap length is
 
 module _ {J : Type 0} where
   -- the runs of a crew are those of which its actors were made
-  pub runs-are : (crew : List Unstarted) (idle : List FreshActor) (actors : List (ActorRun J)) → map (λ w. w.actor) crew ≡ idle
-      → map (λ i. fresh_run i) idle ≡ actors → runs_of J crew ≡ actors
-  runs-are crew idle actors p q = both crew ∙ ap (λ is. map (λ i. fresh_run i) is) p ∙ q
+  pub runs-are : (crew : List Unstarted) (idle : List UnstartedActor) (actors : List (ActorRun J)) → map (λ w. w.actor) crew ≡ idle
+      → map (λ i. unstarted_run i) idle ≡ actors → runs_of J crew ≡ actors
+  runs-are crew idle actors p q = both crew ∙ ap (λ is. map (λ i. unstarted_run i) is) p ∙ q
     where
-      both : (ws : List Unstarted) → runs_of J ws ≡ map (λ i. fresh_run {J = J} i) (map (λ w. w.actor) ws)
+      both : (ws : List Unstarted) → runs_of J ws ≡ map (λ i. unstarted_run {J = J} i) (map (λ w. w.actor) ws)
       both [] = refl
-      both (w ∷ ws) = ap (λ xs. fresh_run w.actor ∷ xs) (both ws)
+      both (w ∷ ws) = ap (λ xs. unstarted_run w.actor ∷ xs) (both ws)
 
   -- there is one actor for each thread and each worker
   pub all-actors-many : (n : Numbers) (actors : List (ActorRun J)) → map (λ a. actor_of a) actors ≡ actors_of n → length actors ≡ n.threads + n.workers
   all-actors-many n actors order = sym (length-map actors (λ a. actor_of a)) ∙ ap length order ∙ actors-many n
 
   -- and so is there one that waits
-  pub idle-many : (n : Numbers) (idle : List FreshActor) (actors : List (ActorRun J)) → map (λ i. fresh_run i) idle ≡ actors
+  pub idle-many : (n : Numbers) (idle : List UnstartedActor) (actors : List (ActorRun J)) → map (λ i. unstarted_run i) idle ≡ actors
       → map (λ a. actor_of a) actors ≡ actors_of n → length idle ≡ n.threads + n.workers
   idle-many n idle actors is order =
-      let runs : length idle ≡ length actors = sym (length-map idle (λ i. fresh_run {J = J} i)) ∙ ap length is in
+      let runs : length idle ≡ length actors = sym (length-map idle (λ i. unstarted_run {J = J} i)) ∙ ap length is in
       runs ∙ all-actors-many n actors order
 
   all-wait : (n : Numbers) (h : TurnState) (k : ℕ) (crew : List Unstarted) → AreThere n k (map (λ a. actor_of a) (runs_of J crew))
-      → All IsFreshActor (runs_of J crew) → map (λ w. w.pass) crew ≡ map (new_pass h.lock) (range_with_len k (length crew)) → AreUnstarted J n h k crew
+      → All IsUnstartedActor (runs_of J crew) → map (λ w. w.pass) crew ≡ map (new_pass h.lock) (range_with_len k (length crew)) → AreUnstarted J n h k crew
   all-wait n h k [] there fresh passes = tt
   all-wait n h k (w ∷ ws) there fresh passes =
       let own : w.pass ≡ new_pass h.lock k = cc passes in
       let others : map (λ w. w.pass) ws ≡ map (new_pass h.lock) (range_with_len (k + 1) (length ws)) = cc passes in
-      let first : IsFreshActor (fresh_run {J = J} w.actor) = All-head IsFreshActor (fresh_run w.actor) (runs_of J ws) fresh in (
+      let first : IsUnstartedActor (unstarted_run {J = J} w.actor) = All-head IsUnstartedActor (unstarted_run w.actor) (runs_of J ws) fresh in (
         ap (λ p. p.number) own,
         record {
           lock = ap (λ p. p.lock) own;
           free = ap (λ p. p.holds) own;
           fresh = record { number = ap (λ p. p.number) own ∙ there.0; own = ap (λ p. p.own) own; there = there.1; fresh = first };
         },
-        all-wait n h (k + 1) ws there.2 (All-tail IsFreshActor (fresh_run w.actor) (runs_of J ws) fresh) others,
+        all-wait n h (k + 1) ws there.2 (All-tail IsUnstartedActor (unstarted_run w.actor) (runs_of J ws) fresh) others,
       )
 
   -- the environment's pass is the first, and the others are those of the actors
   pub members-are : (n : Numbers) (h : TurnState) (first : PassState) (crew : List Unstarted) (actors : List (ActorRun J)) → runs_of J crew ≡ actors
-      → map (λ a. actor_of a) actors ≡ actors_of n → All IsFreshActor actors
+      → map (λ a. actor_of a) actors ≡ actors_of n → All IsUnstartedActor actors
       → first ∷ map (λ w. w.pass) crew ≡ map (new_pass h.lock) (range_with_len 0 h.passes) → IsCrew J n h first crew
   members-are n h first crew actors is order fresh passes = record {
     all = omega (arith, many);
     numbered = record { lock = ap (λ p. p.lock) own; number = ap (λ p. p.number) own; free = ap (λ p. p.holds) own };
     unseen = ap (λ p. p.own) own;
-    unstarted = all-wait n h 1 crew there (subst (λ xs. All IsFreshActor xs) (sym is) fresh) others;
+    unstarted = all-wait n h 1 crew there (subst (λ xs. All IsUnstartedActor xs) (sym is) fresh) others;
   }
     where
       many : h.passes ≡ suc (length crew)

@@ -7,8 +7,8 @@ use Rattle.shared_hub.specs.declared.naming.Numbers.{Numbers}
 use Rattle.hub_lock.specs.SeenTurns.{SamePass}
 use Rattle.env_loop.proofs.SameActors.{same-actor-none, same-actor-then}
 use Rattle.runner.specs.declared.strays.Stray.{Stray}
-use Rattle.runner.specs.ActorsAtTheLock.{IsStray, IsFreshStray, IsSameStray, HasEndedStray}
-use Rattle.runner.proofs.TakenTurns.{fresh-is-at}
+use Rattle.runner.specs.ActorsAtTheLock.{IsStray, IsUnstartedStray, IsSameStray, HasEndedStray}
+use Rattle.runner.proofs.TakenTurns.{unstarted-is-at}
 
 -- PASSES
 pub same-pass-none : (p : PassState) → p.holds ≡ false → SamePass p p
@@ -50,8 +50,8 @@ module _ {J : Type 0} where
   ended-strays-then n (a ∷ us) (b ∷ vs) [] x y = absurd y
 
   -- BEFORE THEIR FIRST TURNS
-  fresh-stray-is : (n : Numbers) (h : TurnState) (s : Stray J) → IsFreshStray n h s → IsStray n h s
-  fresh-stray-is n h s f = record { lock = f.lock; free = f.free; at = fresh-is-at n s.pass s.actor f.at }
+  unstarted-stray-is : (n : Numbers) (h : TurnState) (s : Stray J) → IsUnstartedStray n h s → IsStray n h s
+  unstarted-stray-is n h s f = record { lock = f.lock; free = f.free; at = unstarted-is-at n s.pass s.actor f.at }
 
-  pub fresh-strays-are : (n : Numbers) (h : TurnState) (ss : List (Stray J)) → All (IsFreshStray n h) ss → All (IsStray n h) ss
-  fresh-strays-are n h ss all = All-weaker (IsFreshStray n h) (IsStray n h) (fresh-stray-is n h) ss all
+  pub unstarted-strays-are : (n : Numbers) (h : TurnState) (ss : List (Stray J)) → All (IsUnstartedStray n h) ss → All (IsStray n h) ss
+  unstarted-strays-are n h ss all = All-weaker (IsUnstartedStray n h) (IsStray n h) (unstarted-stray-is n h) ss all

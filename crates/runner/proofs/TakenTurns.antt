@@ -23,9 +23,9 @@ use Rattle.env_loop.specs.RecordedRuns.{Run, FitsHub}
 use Rattle.env_loop.specs.Recording.{AddonStates}
 use Rattle.env_loop.specs.RunsOverRows.{IsReplayed, OthersCame}
 use Rattle.env_loop.specs.declared.actor.ActorRun.{ActorRun}
-use Rattle.env_loop.proofs.FreshAndEnded.{fresh-actors-stand}
+use Rattle.env_loop.proofs.UnstartedAndEnded.{unstarted-actors-stand}
 use Rattle.env_loop.proofs.RunsOverRows.{actor-runs-stand-over, runs-followed-over, fitting-runs-stand-over}
-use Rattle.runner.specs.AtPasses.{HoldsAtPass, IsAtPass, IsFreshAtPass}
+use Rattle.runner.specs.AtPasses.{HoldsAtPass, IsAtPass, IsUnstartedAtPass}
 use Rattle.runner.specs.Environments.{HasFollowedOn}
 use Rattle.runner.specs.ActorsAtTheLock.{GrewByEntries}
 
@@ -113,5 +113,5 @@ stands-after n new s1 Holds k seen own holds = record {
 pub stands-at-first : (n : Numbers) (p : PassState) (Holds : HubSeen → Type 0) → p.own ≡ [] → Holds (hub_seen n []) → HoldsAtPass n p Holds
 stands-at-first n p Holds own holds = record { history = []; led = record { replays = tt; hub = refl }; seen = (p.seen, refl); own = own; holds = holds }
 
-pub fresh-is-at : {J : Type 0} → (n : Numbers) (p : PassState) (a : ActorRun J) → IsFreshAtPass n p a → IsAtPass n p a
-fresh-is-at n p a f = record { number = f.number; stands = stands-at-first n p (λ s. IsActorOf n s a) f.own (fresh-actors-stand _ n a f.there f.fresh) }
+pub unstarted-is-at : {J : Type 0} → (n : Numbers) (p : PassState) (a : ActorRun J) → IsUnstartedAtPass n p a → IsAtPass n p a
+unstarted-is-at n p a f = record { number = f.number; stands = stands-at-first n p (λ s. IsActorOf n s a) f.own (unstarted-actors-stand _ n a f.there f.fresh) }

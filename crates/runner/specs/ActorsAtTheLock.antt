@@ -11,7 +11,7 @@ use Rattle.env_loop.specs.declared.actor.ActorRun.{ActorRun}
 use Rattle.env_loop.specs.declared.actor.ActorTurn.{ActorTurn}
 use Rattle.env_loop.specs.declared.actor.ActorTurn.TheVariants as turn
 use Rattle.runner.specs.declared.strays.Stray.{Stray}
-use Rattle.runner.specs.AtPasses.{IsAtPass, IsFreshAtPass}
+use Rattle.runner.specs.AtPasses.{IsAtPass, IsUnstartedAtPass}
 use Rattle.turn_lock.specs.Passes.{TurnState}
 use Rattle.hub_lock.specs.SeenTurns.{SamePass}
 
@@ -26,7 +26,8 @@ module _ {J : Type 0} where
   AfterTurn n old before turn.Blocked new after = (after ≡ before) × (new ≡ old) × IsBlocked n before old
   AfterTurn n old before turn.Ended new after = (after ≡ before) × (new ≡ old) × (is_over old ≡ true)
 
-  -- so many turns came one after another: the entries are this actor's, it stands as it did, and where it says that the actor has ended it has, and holds no work
+  -- so many turns came one after another: the entries are this actor's, it stands as it did, and where it says that the actor has ended it has, and holds no
+  -- work
   pub record AfterBurst (n : Numbers) (old : ActorRun J) (before : HubSeen) (t : ActorTurn) (new : ActorRun J) (after : HubSeen) : Type 0 where
     pub grew : GrewByEntries (actor_of old) before after
     pub stands : IsActorOf n after new
@@ -42,10 +43,10 @@ module _ {J : Type 0} where
     pub at : IsAtPass n s.pass s.actor
 
   -- before its first turn
-  pub record IsFreshStray (n : Numbers) (h : TurnState) (s : Stray J) : Type 0 where
+  pub record IsUnstartedStray (n : Numbers) (h : TurnState) (s : Stray J) : Type 0 where
     pub lock : s.pass.lock ≡ h.lock
     pub free : s.pass.holds ≡ false
-    pub at : IsFreshAtPass n s.pass s.actor
+    pub at : IsUnstartedAtPass n s.pass s.actor
 
   -- it is the same actor beside the same pass
   pub record IsSameStray (old new : Stray J) : Type 0 where

@@ -7,7 +7,7 @@ use Rattle.turn_lock.specs.Rows.{own_rows}
 use Rattle.shared_hub.specs.declared.naming.Numbers.{Numbers}
 use Rattle.shared_hub.specs.HubRows.{pass_of, rows_of}
 use Rattle.shared_hub.specs.HubStates.{HubSeen, hub_seen}
-use Rattle.env_loop.specs.ActorTurns.{actor_of, is_over, IsActorAt, IsActorOf, IsFreshActor, IsSameActor}
+use Rattle.env_loop.specs.ActorTurns.{actor_of, is_over, IsActorAt, IsActorOf, IsUnstartedActor, IsSameActor}
 use Rattle.env_loop.specs.RunsOverRows.{IsReplayed}
 use Rattle.env_loop.specs.declared.actor.ActorRun.{ActorRun}
 
@@ -26,11 +26,11 @@ module _ {J : Type 0} where
     pub stands : HoldsAtPass n p (λ s. IsActorOf n s a)
 
   -- the run of one of the hub's actors beside its pass, before its first turn
-  pub record IsFreshAtPass (n : Numbers) (p : PassState) (a : ActorRun J) : Type 0 where
+  pub record IsUnstartedAtPass (n : Numbers) (p : PassState) (a : ActorRun J) : Type 0 where
     pub number : p.number ≡ pass_of n.threads (actor_of a)
     pub own : p.own ≡ []
     pub there : IsActorAt n (actor_of a)
-    pub fresh : IsFreshActor a
+    pub fresh : IsUnstartedActor a
 
   -- the actor has ended: the pass's own rows are all entries of the same thread with the same script, or of the same worker
   pub record HasEndedAt (n : Numbers) (p : PassState) (a : ActorRun J) : Type 0 where

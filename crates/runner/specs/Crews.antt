@@ -4,7 +4,7 @@ use Rattle.napi_types.specs.declared.entry.Phase.TheVariants as phase
 use Rattle.napi_types.specs.scripts.Plans.{Plan}
 use Rattle.turn_lock.specs.Passes.{PassState, TurnState}
 use Rattle.shared_hub.specs.declared.naming.Numbers.{Numbers}
-use Rattle.env_loop.specs.ActorTurns.{fresh_run}
+use Rattle.env_loop.specs.ActorTurns.{unstarted_run}
 use Rattle.env_loop.specs.RecordedRuns.{Run}
 use Rattle.env_loop.specs.Recording.{AddonStates}
 use Rattle.env_loop.specs.declared.actor.ActorRun.{ActorRun}
@@ -15,7 +15,7 @@ use Rattle.runner.specs.Places.{IsNumberedPass, AreUnstarted, AreAllBack}
 
 -- the runs of actors that wait
 abbrev pub runs_of : (J : Type 0) → List Unstarted → List (ActorRun J)
-runs_of J crew = map (λ w. fresh_run w.actor) crew
+runs_of J crew = map (λ w. unstarted_run w.actor) crew
 
 -- the environment's pass of this lock, before its first turn, and all other actors with theirs
 pub record IsCrew (J : Type 0) (n : Numbers) (h : TurnState) (first : PassState) (crew : List Unstarted) : Type 0 where

@@ -2,7 +2,7 @@
 use Rattle.std.specs.Prelude.{◌≡◌, ℕ, ◌+◌, true, false, List, [], ◌∷◌, ◌++◌}
 use Rattle.turn_lock.specs.Passes.{PassState, TurnState}
 use Rattle.shared_hub.specs.declared.naming.Numbers.{Numbers}
-use Rattle.env_loop.specs.ActorTurns.{is_over, fresh_run, IsSameActor}
+use Rattle.env_loop.specs.ActorTurns.{is_over, unstarted_run, IsSameActor}
 use Rattle.env_loop.specs.declared.actor.ActorRun.{ActorRun}
 use Rattle.runner.specs.declared.start.Child.{Child}
 use Rattle.runner.specs.declared.start.Child.TheVariants as child
@@ -10,7 +10,7 @@ use Rattle.runner.specs.declared.strays.Stray.{Stray}
 use Rattle.runner.specs.declared.unstarted.Unstarted.{Unstarted}
 use Rattle.runner.specs.AtPasses.{IsAtPass, HasEndedAt}
 use Rattle.runner.specs.Backs.{IsUnstartedAt}
-use Rattle.runner.specs.ActorsAtTheLock.{IsFreshStray}
+use Rattle.runner.specs.ActorsAtTheLock.{IsUnstartedStray}
 
 -- the pass of a number of this lock, which does not hold
 pub record IsNumberedPass (h : TurnState) (k : ℕ) (p : PassState) : Type 0 where
@@ -26,7 +26,7 @@ AreUnstarted J n h k (w ∷ ws) = (w.pass.number ≡ k) × IsUnstartedAt J n h w
 module _ {J : Type 0} where
   -- this actor waits with the pass of this number
   pub record IsGiven (n : Numbers) (h : TurnState) (k : ℕ) (a : ActorRun J) (w : Unstarted) : Type 0 where
-    pub actor : fresh_run w.actor ≡ a
+    pub actor : unstarted_run w.actor ≡ a
     pub number : w.pass.number ≡ k
     pub waits : IsUnstartedAt J n h w
 
@@ -36,10 +36,10 @@ module _ {J : Type 0} where
     pub ended : HasEndedAt n p a
 
   -- the stray is this actor, before its first turn ..
-  pub record IsFreshAt (n : Numbers) (h : TurnState) (k : ℕ) (a : ActorRun J) (s : Stray J) : Type 0 where
+  pub record IsUnstartedStrayAt (n : Numbers) (h : TurnState) (k : ℕ) (a : ActorRun J) (s : Stray J) : Type 0 where
     pub actor : s.actor ≡ a
     pub number : s.pass.number ≡ k
-    pub fresh : IsFreshStray n h s
+    pub fresh : IsUnstartedStray n h s
 
   -- .. or after its last one
   pub record IsEndedAt (n : Numbers) (h : TurnState) (k : ℕ) (a : ActorRun J) (s : Stray J) : Type 0 where
@@ -78,4 +78,4 @@ module _ {J N : Type 0} where
     pub more : List (Stray J)
     pub children : cs' ≡ cs ++ child ∷ []
     pub strays : ss' ≡ ss ++ more
-    pub fills : Fills (IsFreshAt n h) n h w.pass.number (fresh_run w.actor ∷ []) (child ∷ []) more
+    pub fills : Fills (IsUnstartedStrayAt n h) n h w.pass.number (unstarted_run w.actor ∷ []) (child ∷ []) more

@@ -3,7 +3,7 @@ ghost use Rattle.std.specs.Prelude.{◌≡◌, false, true};
 ghost use Rattle.shared_hub.specs.KeptHubs.{IsLedHub};
 ghost use Rattle.hub_lock.specs.SeenTurns.{SamePass};
 ghost use Rattle.env_loop.specs.ActorTurns.{is_over, IsActorOf, IsReady, HoldsNoWork, IsSameActor, with_work_executed};
-ghost use Rattle.runner.specs.AtPasses.{IsAtPass, IsFreshAtPass, HasEndedAt};
+ghost use Rattle.runner.specs.AtPasses.{IsAtPass, IsUnstartedAtPass, HasEndedAt};
 ghost use Rattle.runner.specs.ActorsAtTheLock.{AfterTurn, AfterBurst};
 
 use async_work::Job;
@@ -36,7 +36,7 @@ pub fn run_actor<J: Job, N: Naming, R: Wait, G: Gate>(
 )
     requires lock { pass.old.lock ≡ hub.now.lock }
     requires free { pass.old.holds ≡ false }
-    requires fresh { IsFreshAtPass N.numbers pass.old actor }
+    requires fresh { IsUnstartedAtPass N.numbers pass.old actor }
     ensures same { SamePass pass.old pass.new }
     ensures ended { HasEndedAt N.numbers pass.new actor }
 {

@@ -3,7 +3,7 @@ ghost use Rattle.std.specs.Prelude.{◌≡◌, ◌+◌, ◌≤◌, true, [], IfO
 ghost use Rattle.std.specs.List.{All, AllZip};
 ghost use Rattle.addon_trait.specs.Addons.{TellSamePlans};
 ghost use Rattle.shared_hub.specs.HubStates.{hub_seen};
-ghost use Rattle.env_loop.specs.ActorTurns.{actor_of, actors_of, is_over, IsActorOf, IsFreshActor, IsSameActor};
+ghost use Rattle.env_loop.specs.ActorTurns.{actor_of, actors_of, is_over, IsActorOf, IsUnstartedActor, IsSameActor};
 ghost use Rattle.env_loop.specs.OpenedAndGone.{IsOpenedRun, EndsWhole};
 ghost use Rattle.env_loop.specs.Recording.{states_of};
 ghost use Rattle.env_loop.specs.RunsOverRows.{IsReplayed};
@@ -64,7 +64,7 @@ impl<J: Job, N: Naming> Crew<J, N> {
         requires opens { state.history ≡ [] }
         requires few { 1 + N.numbers.threads + N.numbers.workers ≤ 64 }
         requires order { map actor_of actors.items ≡ actors_of N.numbers }
-        requires fresh { All IsFreshActor actors.items }
+        requires fresh { All IsUnstartedActor actors.items }
         ensures { IfOk result (λ crew. crew ≡ actors.items) }
     {
         let count = passes_for(&state, actors.len());

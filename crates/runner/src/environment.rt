@@ -13,7 +13,7 @@ ghost use Rattle.env_loop.specs.Recording.{AddonStates, states_of};
 ghost use Rattle.env_loop.specs.Turns.{needs_hub};
 ghost use Rattle.runner.specs.AtPasses.{HoldsAtPass};
 ghost use Rattle.runner.specs.Environments.{HasFollowedOnAtPass};
-ghost use Rattle.runner.specs.ActorsAtTheLock.{GrewByEntries, IsStray, IsFreshStray, IsSameStray, HasEndedStray};
+ghost use Rattle.runner.specs.ActorsAtTheLock.{GrewByEntries, IsStray, IsUnstartedStray, IsSameStray, HasEndedStray};
 
 use crate::strays::{Stray, end_strays, turn_strays};
 use addon_trait::Addon;
@@ -52,7 +52,7 @@ pub fn run_env<J: Job, N: Naming, R: Wait>(
     requires own { pass.old.own ≡ [] }
     requires opened { IsOpenedRun env.old }
     requires enough { env.old.core.env.addons ≤ length addons.old.items }
-    requires strays { All (IsFreshStray N.numbers hub.now) strays.old.items }
+    requires strays { All (IsUnstartedStray N.numbers hub.now) strays.old.items }
     ensures plans { TellSamePlans (λ b. plan b) addons.old.items addons.new.items }
     ensures same { SamePass pass.old pass.new }
     ensures gone { env.new.core.env.phase ≡ Phase.Gone }

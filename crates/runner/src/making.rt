@@ -1,13 +1,13 @@
 //! What a crew is made of: actors that may be let go, words, passes and places.
 ghost use Rattle.std.specs.Prelude.{◌≡◌, ◌+◌, ◌<◌, ◌≤◌, ◌^◌, [], ◌∷◌, IfOk, map, vec_len, vec_capacity};
 ghost use Rattle.std.specs.List.{All};
-ghost use Rattle.env_loop.specs.ActorTurns.{fresh_run, HoldsNoWork, IsFreshActor};
+ghost use Rattle.env_loop.specs.ActorTurns.{unstarted_run, HoldsNoWork, IsUnstartedActor};
 ghost use Rattle.runner.specs.Crews.{HasPlaces};
 
 use crate::places::Places;
 use crate::unstarted::Unstarted;
 use async_work::Job;
-use env_loop::{ActorRun, FreshActor};
+use env_loop::{ActorRun, UnstartedActor};
 use napi_types::NoMemory;
 use shared_hub::{HubState, Naming};
 use std::alloc::Global;
@@ -15,13 +15,13 @@ use std::sync::atomic::AtomicU64;
 use turn_lock::Pass;
 
 /// The actors of which no turn was made, each of which may be let go.
-#[tactic(auto, using(crate::proofs::MadeCrews::fresh_hold_no_work))]
+#[tactic(auto, using(crate::proofs::MadeCrews::unstarted_hold_no_work))]
 pub(crate) fn idle_actors<J: Job>(
     alloc: Global,
     actors: Vec<ActorRun<J>>,
-) -> Result<Vec<FreshActor>, NoMemory>
-    requires { All IsFreshActor actors.items }
-    ensures { IfOk result (λ idle. map (λ i. fresh_run i) idle.items ≡ actors.items) }
+) -> Result<Vec<UnstartedActor>, NoMemory>
+    requires { All IsUnstartedActor actors.items }
+    ensures { IfOk result (λ idle. map (λ i. unstarted_run i) idle.items ≡ actors.items) }
 {
     let Ok(mut idle) = Vec::with_capacity(alloc, actors.len()) else {
         retire_all(actors);
@@ -29,7 +29,7 @@ pub(crate) fn idle_actors<J: Job>(
     };
     let mut actors = actors.into_iter();
     while let Some(actor) = actors.next() {
-        idle.push_reserved(actor.into_fresh());
+        idle.push_reserved(actor.into_unstarted());
     }
     actors.destroy_empty();
     Ok(idle)
@@ -69,7 +69,7 @@ pub(crate) fn passes_for<J: Job, N: Naming>(state: &HubState<J, N>, actors: usiz
 
 /// The environment's pass, which is the first, and the actors with the others, in their order, in the places that are there for them.
 pub(crate) fn with_passes(
-    actors: Vec<FreshActor>,
+    actors: Vec<UnstartedActor>,
     passes: Vec<Pass>,
     mut unstarted: Vec<Unstarted>,
 ) -> (Pass, Vec<Unstarted>)
@@ -108,7 +108,7 @@ pub(crate) fn places_for<J: Job, N: Naming>(
 
 /// What a crew takes of memory beside its hub: its actors, a word for each, places for them with their passes, and places of what comes of them.
 pub(crate) struct Equipment<J: Job, N: Naming> {
-    pub(crate) idle: Vec<FreshActor>,
+    pub(crate) idle: Vec<UnstartedActor>,
     pub(crate) words: Vec<AtomicU64>,
     pub(crate) unstarted: Vec<Unstarted>,
     pub(crate) places: Places<J, N>,
@@ -119,9 +119,9 @@ pub(crate) fn equipment_for<J: Job, N: Naming>(
     alloc: Global,
     actors: Vec<ActorRun<J>>,
 ) -> Result<Equipment<J, N>, NoMemory>
-    requires fresh { All IsFreshActor actors.items }
+    requires fresh { All IsUnstartedActor actors.items }
     requires few { vec_len actors < 2 ^ 32 }
-    ensures idle { IfOk result (λ e. map (λ i. fresh_run i) e.idle.items ≡ actors.items) }
+    ensures idle { IfOk result (λ e. map (λ i. unstarted_run i) e.idle.items ≡ actors.items) }
     ensures words { IfOk result (λ e. vec_len e.words ≡ vec_len e.idle) }
     ensures none { IfOk result (λ e. e.unstarted.items ≡ []) }
     ensures room { IfOk result (λ e. vec_len e.idle ≤ vec_capacity e.unstarted) }

@@ -2,7 +2,7 @@
 ghost use Rattle.std.specs.Prelude.{◌≡◌, ◌+◌, ◌<◌, ◌≤◌, [], IfOk, IfErr, length, vec_len, vec_capacity};
 ghost use Rattle.runner.specs.Backs.{IsUnstartedAt, KeepsActor};
 ghost use Rattle.runner.specs.Crews.{runs_of};
-ghost use Rattle.runner.specs.Places.{AreUnstarted, Fills, IsFreshAt, AddsPlace};
+ghost use Rattle.runner.specs.Places.{AreUnstarted, Fills, IsUnstartedStrayAt, AddsPlace};
 
 use crate::actor::run_actor;
 use crate::strays::Stray;
@@ -124,7 +124,7 @@ pub(crate) fn start_all<
     requires no_strays { strays.old.items ≡ [] }
     requires places { vec_len crew ≤ vec_capacity children.old }
     requires more_places { vec_len crew ≤ vec_capacity strays.old }
-    ensures fills { Fills (IsFreshAt N.numbers hub.now) N.numbers hub.now 1 (runs_of J crew.items) children.new.items strays.new.items }
+    ensures fills { Fills (IsUnstartedStrayAt N.numbers hub.now) N.numbers hub.now 1 (runs_of J crew.items) children.new.items strays.new.items }
     ensures len { vec_len children.new ≡ vec_len crew }
 {
     for unstarted in crew {

@@ -2,14 +2,14 @@
 ghost use Rattle.std.specs.Prelude.{◌≡◌};
 ghost use Rattle.env_loop.specs.OpenedAndGone.{IsOpenedRun};
 
-use env_loop::{EnvRun, FreshActor};
+use env_loop::{EnvRun, UnstartedActor};
 use std::marker::Model;
 use turn_lock::Pass;
 
 /// An actor before its first turn, with its pass.
 #[derive(Drop)]
 pub(crate) struct Unstarted {
-    pub(crate) actor: FreshActor,
+    pub(crate) actor: UnstartedActor,
     pub(crate) pass: Pass,
 }
 

@@ -13,8 +13,8 @@ use Rattle.shared_hub.specs.HubStates.{HubSeen}
 use Rattle.shared_hub.specs.KeptHubs.{IsLedHub}
 use Rattle.shared_hub.specs.declared.naming.Numbers.{Numbers}
 use Rattle.env_loop.specs.ActorRuns.{ThreadSeen, new_thread, calls_left, WorkerSeen, new_worker, worker_state}
-use Rattle.env_loop.specs.ActorTurns.{actor_of, is_over, IsActorOf, IsFreshActor, HoldsNoWork, IsSameActor}
-use Rattle.env_loop.proofs.FreshAndEnded.{ended-actors-hold-none}
+use Rattle.env_loop.specs.ActorTurns.{actor_of, is_over, IsActorOf, IsUnstartedActor, HoldsNoWork, IsSameActor}
+use Rattle.env_loop.proofs.UnstartedAndEnded.{ended-actors-hold-none}
 use Rattle.env_loop.specs.declared.actor.ActorRun.{ActorRun}
 use Rattle.env_loop.specs.declared.actor.ActorRun.TheVariants as run
 use Rattle.stepper.specs.ListTurns.{HasScript}
@@ -24,18 +24,18 @@ use Rattle.script_run.specs.ScriptActors.{thread_runs, worker_runs, MadeItsScrip
 
 module _ (J : Type 0) where
   -- HOW THEY BEGIN
-  abbrev fresh_thread : ℕ → List Op → ActorRun J
-  fresh_thread t operations = run.OfThread (new_thread t operations)
+  abbrev unstarted_thread : ℕ → List Op → ActorRun J
+  unstarted_thread t operations = run.OfThread (new_thread t operations)
 
-  abbrev fresh_worker : ℕ → ActorRun J
-  fresh_worker w = run.OfWorker (new_worker w)
+  abbrev unstarted_worker : ℕ → ActorRun J
+  unstarted_worker w = run.OfWorker (new_worker w)
 
   -- the threads and then the workers, in the order of a round
   threads-named : (t : ℕ) (threads : List (List Op)) → map actor_of (thread_runs {J = J} t threads) ≡ map (λ n. actor.Thread n) (range_with_len t (length threads))
   threads-named t [] = refl
   threads-named t (operations ∷ threads) = ap (λ l. actor.Thread t ∷ l) (threads-named (t + 1) threads)
 
-  workers-named : (numbers : List ℕ) → map actor_of (map fresh_worker numbers) ≡ map (λ w. actor.Worker w) numbers
+  workers-named : (numbers : List ℕ) → map actor_of (map unstarted_worker numbers) ≡ map (λ w. actor.Worker w) numbers
   workers-named [] = refl
   workers-named (w ∷ numbers) = ap (λ l. actor.Worker w ∷ l) (workers-named numbers)
 
@@ -47,13 +47,14 @@ module _ (J : Type 0) where
       ∙ ap (λ l. map (λ t. actor.Thread t) (range_with_len 0 (length threads)) ++ l) (workers-named (range_with_len 0 workers))
       ∙ sym (ap actors_of named)
 
-  threads-fresh : (t : ℕ) (threads : List (List Op)) → All IsFreshActor (thread_runs {J = J} t threads)
-  threads-fresh t [] = All-nil IsFreshActor
-  threads-fresh t (operations ∷ threads) = All-cons IsFreshActor (fresh_thread t operations) (thread_runs (t + 1) threads) refl (threads-fresh (t + 1) threads)
+  threads-unstarted : (t : ℕ) (threads : List (List Op)) → All IsUnstartedActor (thread_runs {J = J} t threads)
+  threads-unstarted t [] = All-nil IsUnstartedActor
+  threads-unstarted t (operations ∷ threads) = All-cons IsUnstartedActor (unstarted_thread t operations) (thread_runs (t + 1) threads) refl
+      (threads-unstarted (t + 1) threads)
 
-  workers-fresh : (numbers : List ℕ) → All IsFreshActor (map fresh_worker numbers)
-  workers-fresh [] = All-nil IsFreshActor
-  workers-fresh (w ∷ numbers) = All-cons IsFreshActor (fresh_worker w) (map fresh_worker numbers) refl (workers-fresh numbers)
+  workers-unstarted : (numbers : List ℕ) → All IsUnstartedActor (map unstarted_worker numbers)
+  workers-unstarted [] = All-nil IsUnstartedActor
+  workers-unstarted (w ∷ numbers) = All-cons IsUnstartedActor (unstarted_worker w) (map unstarted_worker numbers) refl (workers-unstarted numbers)
 
   -- each thread has the script of its number
   threads-have : (scripts : List (List Op)) (t : ℕ) (later : List (List Op))
@@ -62,15 +63,16 @@ module _ (J : Type 0) where
   threads-have scripts t [] at = All-nil (HasScript scripts)
   threads-have scripts t (operations ∷ later) at =
       let here : t + 0 ≡ t = omega arith in
-      All-cons (HasScript scripts) (fresh_thread t operations) (thread_runs (t + 1) later) (subst (λ k. slice_get scripts k ≡ Some operations) here (at 0 operations refl))
+      All-cons (HasScript scripts) (unstarted_thread t operations) (thread_runs (t + 1) later)
+      (subst (λ k. slice_get scripts k ≡ Some operations) here (at 0 operations refl))
       (threads-have scripts (t + 1) later (λ i os is. subst (λ k. slice_get scripts k ≡ Some os) (next t i) (at (suc i) os is)))
     where
       next : (t i : ℕ) → t + suc i ≡ t + 1 + i
       next t i = omega arith
 
-  workers-have : (scripts : List (List Op)) (numbers : List ℕ) → All (HasScript scripts) (map fresh_worker numbers)
+  workers-have : (scripts : List (List Op)) (numbers : List ℕ) → All (HasScript scripts) (map unstarted_worker numbers)
   workers-have scripts [] = All-nil (HasScript scripts)
-  workers-have scripts (w ∷ numbers) = All-cons (HasScript scripts) (fresh_worker w) (map fresh_worker numbers) tt (workers-have scripts numbers)
+  workers-have scripts (w ∷ numbers) = All-cons (HasScript scripts) (unstarted_worker w) (map unstarted_worker numbers) tt (workers-have scripts numbers)
 
   pub scripts-have : (threads : List (List Op)) (workers : ℕ) (actors : List (ActorRun J)) → actors ≡ thread_runs 0 threads ++ worker_runs workers
       → All (HasScript threads) actors
@@ -83,38 +85,40 @@ module _ (J : Type 0) where
       same : (i : ℕ) → i ≡ 0 + i
       same i = omega arith
 
-  pub all-fresh : (threads : List (List Op)) (workers : ℕ) (actors : List (ActorRun J)) → actors ≡ thread_runs 0 threads ++ worker_runs workers
-      → All IsFreshActor actors
-  all-fresh threads workers actors made =
-      subst (All IsFreshActor) (sym made)
-      (All-append IsFreshActor (thread_runs 0 threads) (worker_runs workers) (threads-fresh 0 threads) (workers-fresh (range_with_len 0 workers)))
+  pub all-unstarted : (threads : List (List Op)) (workers : ℕ) (actors : List (ActorRun J)) → actors ≡ thread_runs 0 threads ++ worker_runs workers
+      → All IsUnstartedActor actors
+  all-unstarted threads workers actors made =
+      subst (All IsUnstartedActor) (sym made)
+      (All-append IsUnstartedActor (thread_runs 0 threads) (worker_runs workers) (threads-unstarted 0 threads) (workers-unstarted (range_with_len 0 workers)))
 
   -- one thread more
   threads-more : (t : ℕ) (threads : List (List Op)) (operations : List Op) (number : ℕ) → number ≡ t + length threads
-      → thread_runs t (threads ++ operations ∷ []) ≡ thread_runs t threads ++ fresh_thread number operations ∷ []
+      → thread_runs t (threads ++ operations ∷ []) ≡ thread_runs t threads ++ unstarted_thread number operations ∷ []
   threads-more t [] operations number place =
       let e : t ≡ number = omega (arith, place) in
-      ap (λ n. fresh_thread n operations ∷ []) e
+      ap (λ n. unstarted_thread n operations ∷ []) e
   threads-more t (first ∷ threads) operations number place =
       let e : number ≡ t + 1 + length threads = omega (arith, place) in
-      ap (λ l. fresh_thread t first ∷ l) (threads-more (t + 1) threads operations number e)
+      ap (λ l. unstarted_thread t first ∷ l) (threads-more (t + 1) threads operations number e)
 
   pub thread-pushed : (done more : List (List Op)) (operations : List Op) (number : ℕ) (first items now : List (ActorRun J)) (pushed : ActorRun J)
-      → items ≡ first ++ thread_runs 0 done → number ≡ length done → pushed ≡ fresh_thread number operations → now ≡ items ++ pushed ∷ []
+      → items ≡ first ++ thread_runs 0 done → number ≡ length done → pushed ≡ unstarted_thread number operations → now ≡ items ++ pushed ∷ []
       → more ≡ done ++ operations ∷ [] → now ≡ first ++ thread_runs 0 more
   thread-pushed done more operations number first items now pushed before place is grown longer =
       let e : number ≡ 0 + length done = omega (arith, place) in
-      grown ∙ ap (λ a. items ++ a ∷ []) is ∙ ap (λ l. l ++ fresh_thread number operations ∷ []) before
-      ∙ append_assoc first (thread_runs 0 done) (fresh_thread number operations ∷ [])
+      grown ∙ ap (λ a. items ++ a ∷ []) is ∙ ap (λ l. l ++ unstarted_thread number operations ∷ []) before
+      ∙ append_assoc first (thread_runs 0 done) (unstarted_thread number operations ∷ [])
       ∙ ap (λ l. first ++ l) (sym (threads-more 0 done operations number e)) ∙ ap (λ m. first ++ thread_runs 0 m) (sym longer)
 
   -- one worker more
-  pub worker-pushed : (number : ℕ) (first items now : List (ActorRun J)) (pushed : ActorRun J) → items ≡ first ++ worker_runs number → pushed ≡ fresh_worker number
+  pub worker-pushed : (number : ℕ) (first items now : List (ActorRun J)) (pushed : ActorRun J) → items ≡ first ++ worker_runs number
+      → pushed ≡ unstarted_worker number
       → now ≡ items ++ pushed ∷ [] → now ≡ first ++ worker_runs (number + 1)
   worker-pushed number first items now pushed before is grown =
       let e : 0 + number ≡ number = omega arith in
-      grown ∙ ap (λ a. items ++ a ∷ []) is ∙ ap (λ l. l ++ fresh_worker number ∷ []) before ∙ append_assoc first (worker_runs number) (fresh_worker number ∷ [])
-      ∙ ap (λ l. first ++ l) (sym (map-range_with_len_more fresh_worker 0 number number e))
+      grown ∙ ap (λ a. items ++ a ∷ []) is ∙ ap (λ l. l ++ unstarted_worker number ∷ []) before ∙ append_assoc first (worker_runs number)
+      (unstarted_worker number ∷ [])
+      ∙ ap (λ l. first ++ l) (sym (map-range_with_len_more unstarted_worker 0 number number e))
 
 -- AT THE END
 module _ {J : Type 0} (version : ℕ) (plans : List Plan) (texts threads workers : ℕ) (hub : HubSeen) where

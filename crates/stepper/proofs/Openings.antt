@@ -18,12 +18,12 @@ use Rattle.shared_hub.specs.HubStates.{HubSeen, hub_seen}
 use Rattle.shared_hub.specs.KeptHubs.{IsLedHub}
 use Rattle.shared_hub.specs.declared.naming.Numbers.{Numbers}
 use Rattle.env_loop.specs.declared.actor.ActorRun.{ActorRun}
-use Rattle.env_loop.specs.ActorTurns.{actor_of, is_over, IsActorAt, IsActorOf, IsFreshActor}
+use Rattle.env_loop.specs.ActorTurns.{actor_of, is_over, IsActorAt, IsActorOf, IsUnstartedActor}
 use Rattle.env_loop.specs.FollowedRuns.{FollowsOnAt, IsFollowed}
 use Rattle.env_loop.specs.RecordedRuns.{Run, FitsHub}
 use Rattle.env_loop.proofs.HubGoing.{replays-in, gone-ended}
 use Rattle.env_loop.specs.OpenedAndGone.{IsOpenedRun, EndsWhole}
-use Rattle.env_loop.proofs.FreshAndEnded.{opened-runs-fit, fresh-actors-stand}
+use Rattle.env_loop.proofs.UnstartedAndEnded.{opened-runs-fit, unstarted-actors-stand}
 use Rattle.stepper.specs.TakingPart.{actors_of, turns_of, rounds_of}
 use Rattle.stepper.specs.GivenTurns.{RunAtHub, Moment, moment_of}
 use Rattle.stepper.specs.ListTurns.{lists_at, AroseWhole}
@@ -49,23 +49,23 @@ gone-stage phase.Finals s shows gone = shows
 
 module _ {J : Type 0} where
   -- THE ACTORS
-  all-fresh-stand : (n : Numbers) (xs : List (ActorRun J)) → map actor_of xs ≡ actors_of n → All IsFreshActor xs → All (IsActorOf n (hub_seen n [])) xs
-  all-fresh-stand n [] order fresh = All-nil (IsActorOf n (hub_seen n []))
-  all-fresh-stand n (x ∷ xs) order fresh =
+  all-unstarted-stand : (n : Numbers) (xs : List (ActorRun J)) → map actor_of xs ≡ actors_of n → All IsUnstartedActor xs → All (IsActorOf n (hub_seen n [])) xs
+  all-unstarted-stand n [] order fresh = All-nil (IsActorOf n (hub_seen n []))
+  all-unstarted-stand n (x ∷ xs) order fresh =
       All-from_get_or (IsActorOf n (hub_seen n [])) (x ∷ xs) x (λ i inside.
       let name : get_or (actors_of n) i actor.Env ≡ actor_of (get_or (x ∷ xs) i x) =
       ap (λ (ws : List Actor). get_or ws i actor.Env) (sym order) ∙ get_or-map actor_of (x ∷ xs) i x actor.Env inside in
-      fresh-actors-stand J n (get_or (x ∷ xs) i x)
+      unstarted-actors-stand J n (get_or (x ∷ xs) i x)
       (subst (IsActorAt n) name (stands-there n i (omega (arith, inside, ap length order, length-map (x ∷ xs) actor_of))).at)
-      (All-get_or IsFreshActor (x ∷ xs) i x inside fresh))
+      (All-get_or IsUnstartedActor (x ∷ xs) i x inside fresh))
 
   pub start-stands : (n : Numbers) (m : RunAtHub) (xs : List (ActorRun J)) → IsOpenedRun m.run → m.hub ≡ hub_seen n [] → map actor_of xs ≡ actors_of n
-      → All IsFreshActor xs → Stands n (moment_of m xs)
+      → All IsUnstartedActor xs → Stands n (moment_of m xs)
   start-stands n m xs opened empty order fresh = record {
     env = opened-stands n m opened empty;
     actors = record {
       order = order;
-      stands = subst (λ (s : HubSeen). All (IsActorOf n s) xs) (sym empty) (all-fresh-stand n xs order fresh);
+      stands = subst (λ (s : HubSeen). All (IsActorOf n s) xs) (sym empty) (all-unstarted-stand n xs order fresh);
       ended = λ final. absurd (early (ap (λ (s : HubSeen). s.hub.stage) (sym empty) ∙ final));
     };
   }

@@ -4,7 +4,7 @@ ghost use Rattle.std.specs.List.{All, AllZip};
 ghost use Rattle.napi_types.specs.declared.lists.Record.{Record};
 ghost use Rattle.addon_trait.specs.Addons.{TellSamePlans};
 ghost use Rattle.shared_hub.specs.HubStates.{hub_seen};
-ghost use Rattle.env_loop.specs.ActorTurns.{actor_of, is_over, IsActorAt, IsActorOf, IsFreshActor, IsSameActor};
+ghost use Rattle.env_loop.specs.ActorTurns.{actor_of, is_over, IsActorAt, IsActorOf, IsUnstartedActor, IsSameActor};
 ghost use Rattle.env_loop.specs.OpenedAndGone.{IsOpenedRun, EndsWhole};
 ghost use Rattle.env_loop.specs.FollowedRuns.{FollowsOnAt};
 ghost use Rattle.env_loop.specs.Recording.{states_of};
@@ -37,7 +37,7 @@ pub fn step_all<J: Job, N: Naming>(
     requires opened { IsOpenedRun env.old }
     requires empty { hub.old ≡ hub_seen N.numbers [] }
     requires order { map actor_of actors.old.items ≡ actors_of N.numbers }
-    requires fresh { All IsFreshActor actors.old.items }
+    requires fresh { All IsUnstartedActor actors.old.items }
     requires scheduled { All (IsActorAt N.numbers) schedule.now }
     requires enough { env.old.core.env.addons ≤ length addons.old.items }
     ensures plans { TellSamePlans (λ b. plan b) addons.old.items addons.new.items }

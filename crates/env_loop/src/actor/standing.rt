@@ -1,7 +1,7 @@
 //! What the runs of threads and workers keep while others go on, as laws: each function does nothing, and its contract states a law.
 ghost use Rattle.env_loop.specs.ActorRuns.{ThreadRunsStand, WorkerRunsStand, ExecutedWorksStand};
 ghost use Rattle.env_loop.specs.RunsOverRows.{ActorRunsStandOverRows};
-ghost use Rattle.env_loop.specs.FreshAndEnded.{FreshActorsStand, EndedActorsHoldNoWork};
+ghost use Rattle.env_loop.specs.UnstartedAndEnded.{UnstartedActorsStand, EndedActorsHoldNoWork};
 
 use async_work::Job;
 
@@ -22,8 +22,8 @@ pub fn worker_runs_stand_as_works_are_executed()
 {}
 
 /// An actor of which no turn was made is one of a hub's that opens.
-pub fn fresh_actors_stand<J: Job>()
-    ensures { FreshActorsStand J }
+pub fn unstarted_actors_stand<J: Job>()
+    ensures { UnstartedActorsStand J }
 {}
 
 /// One that has ended holds no work.

@@ -11,7 +11,7 @@ ghost use Rattle.shared_hub.specs.HubStates.{hub_room};
 ghost use Rattle.shared_hub.specs.SharedTries.{actor_end_told as end_told_by};
 ghost use Rattle.env_loop.specs.ActorRuns.{IsOperationOfThread, new_thread, IsThreadOf, SameThread, ThreadBlocked, AddsEntryOf, StoppedAt, calls_left};
 
-use super::fresh::FreshThread;
+use super::unstarted::UnstartedThread;
 use super::{ActorTurn, NextStep};
 use async_work::Job;
 use napi_types::{Actor, Call, Op, OpList, Status, TsfnId, Why};
@@ -113,7 +113,7 @@ impl ThreadRun {
     }
 
     /// What it is made of, where no turn of it was made.
-    pub(crate) fn into_fresh(self) -> FreshThread
+    pub(crate) fn into_unstarted(self) -> UnstartedThread
         ensures { result ≡ new_thread self.number self.operations }
     {
         let ThreadRun {
@@ -122,7 +122,7 @@ impl ThreadRun {
             made: _,
             over: _,
         } = self;
-        FreshThread::new(number, operations)
+        UnstartedThread::new(number, operations)
     }
 
     /// Ends the value, without an event.

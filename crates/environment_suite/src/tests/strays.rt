@@ -4,9 +4,9 @@ ghost use Rattle.std.specs.Prelude.{◌≡◌, ◌≤◌, ◌∷◌, List, lengt
 ghost use Rattle.std.specs.List.{All, range_with_len};
 ghost use Rattle.turn_lock.specs.Passes.{PassState, new_pass};
 ghost use Rattle.env_loop.specs.ActorRuns.{IsOperationOfThread};
-ghost use Rattle.env_loop.specs.ActorTurns.{actor_of, actors_of, IsFreshActor, HoldsNoWork};
+ghost use Rattle.env_loop.specs.ActorTurns.{actor_of, actors_of, IsUnstartedActor, HoldsNoWork};
 ghost use Rattle.env_loop.specs.OpenedAndGone.{IsOpenedRun};
-ghost use Rattle.runner.specs.ActorsAtTheLock.{IsFreshStray};
+ghost use Rattle.runner.specs.ActorsAtTheLock.{IsUnstartedStray};
 
 use super::ample;
 use super::driving::{InHistory, InJournal, history_of, journal_of, list_of, opened_hub};
@@ -123,7 +123,7 @@ fn strays_of<N: Naming>(
 ) -> Vec<Stray<ScriptJob>>
     requires named { N.numbers ≡ record { threads = 2; workers = 1; limits = record { journal = 0; history = 200 } } }
     requires passes { passes.items ≡ map (new_pass hub.now.lock) (range_with_len 1 3) }
-    ensures fresh { All (IsFreshStray N.numbers hub.now) result.items }
+    ensures fresh { All (IsUnstartedStray N.numbers hub.now) result.items }
     ensures numbers { map (λ s. s.pass.number) result.items ≡ range_with_len 1 3 }
 {
     let mut strays = Vec::with_capacity(alloc, 3).expect(rt, "places");
@@ -186,7 +186,7 @@ fn actors<N: Naming>(
 ) -> Vec<ActorRun<ScriptJob>>
     requires named { N.numbers ≡ record { threads = 2; workers = 1; limits = record { journal = 0; history = 200 } } }
     ensures order { map actor_of result.items ≡ actors_of N.numbers }
-    ensures fresh { All IsFreshActor result.items }
+    ensures fresh { All IsUnstartedActor result.items }
 {
     let mut actors = Vec::with_capacity(alloc, 3).expect(rt, "places");
     actors.push_reserved(ActorRun::thread(0, operations(rt, alloc, threads[0])));

@@ -1,4 +1,4 @@
-use Rattle.env_loop.proofs.FreshAndEnded.{opened-runs-fit}
+use Rattle.env_loop.proofs.UnstartedAndEnded.{opened-runs-fit}
 use Rattle.env_loop.proofs.HubGoing.{opened-followed}
 use Rattle.env_loop.proofs.recorded_laws.opened_runs_are_followed.Goals as goal
 

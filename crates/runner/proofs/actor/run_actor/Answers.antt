@@ -1,4 +1,4 @@
-use Rattle.runner.proofs.TakenTurns.{fresh-is-at}
+use Rattle.runner.proofs.TakenTurns.{unstarted-is-at}
 use Rattle.env_loop.proofs.SameActors.{same-actor-none}
 use Rattle.runner.proofs.SameStrays.{same-pass-none}
 use Rattle.runner.proofs.actor.run_actor.Goals as goal
@@ -9,5 +9,5 @@ loop-init g c = (
   tt,
   same-pass-none c.args.pass.now c.requires.free,
   same-actor-none c.args.actor,
-  fresh-is-at g.N.Naming.numbers c.args.pass.now c.args.actor c.requires.fresh,
+  unstarted-is-at g.N.Naming.numbers c.args.pass.now c.args.actor c.requires.fresh,
 )

@@ -1,12 +1,12 @@
 use Rattle.std.proofs.Common.{◌∙◌, refl, sym, rules}
 use Rattle.addon_trait.proofs.SamePlans.{plans-none, plans-then}
 use Rattle.runner.proofs.EnvironmentAtTheLock.{opened-has-run, has-run-then, others-then}
-use Rattle.runner.proofs.SameStrays.{same-pass-none, same-pass-then, same-strays-none, same-strays-then, ended-strays-then, fresh-strays-are}
+use Rattle.runner.proofs.SameStrays.{same-pass-none, same-pass-then, same-strays-none, same-strays-then, ended-strays-then, unstarted-strays-are}
 use Rattle.runner.proofs.environment.run_env.Goals as goal
 
 pub loop-init : goal.loop-init
 loop-init g c =
-    let strays = fresh-strays-are g.N.Naming.numbers c.args.hub.now c.args.strays.now.items c.requires.strays in (
+    let strays = unstarted-strays-are g.N.Naming.numbers c.args.hub.now c.args.strays.now.items c.requires.strays in (
       tt,
       tt,
       record {

@@ -2,12 +2,13 @@ use Rattle.std.proofs.Common.{rules, ◌≡◌, ◌∙◌, [], ◌∷◌, ◌++�
 use Rattle.runner.specs.Crews.{runs_of}
 use Rattle.runner.specs.Places.{IsNumberedPass}
 use Rattle.runner.proofs.AllBack.{all-back, of-first, ran-from}
-use Rattle.runner.proofs.FilledPlaces.{fresh-strays, ended-places}
+use Rattle.runner.proofs.FilledPlaces.{unstarted-strays, ended-places}
 use Rattle.runner.proofs.running.run_all.Goals as goal
 
 pub run_env-requires-clause-strays : goal.run_env-requires-clause-strays
 run_env-requires-clause-strays g c κs within =
-    fresh-strays g.N.Naming.numbers c.args.hub.now 1 (runs_of g.row.J.Denot c.args.crew.items) c.start_all.new.children.items c.start_all.new.strays.items c.start_all.ensures.fills
+    unstarted-strays g.N.Naming.numbers c.args.hub.now 1
+    (runs_of g.row.J.Denot c.args.crew.items) c.start_all.new.children.items c.start_all.new.strays.items c.start_all.ensures.fills
 
 pub join_all-requires-clause-fills : goal.join_all-requires-clause-fills
 join_all-requires-clause-fills g c κs within = (

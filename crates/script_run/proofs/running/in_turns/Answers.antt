@@ -2,7 +2,7 @@ use Rattle.std.proofs.Common.{ap, length, [], refl, unwrap_or, ◌∙◌}
 use Rattle.std.proofs.lemmas.List.{length-map}
 use Rattle.script_run.proofs.Ran.{ran-of}
 use Rattle.script_run.proofs.Loading.{others-stay, whole-ended, whole-arose}
-use Rattle.script_run.proofs.EndedActors.{in-order, all-fresh, scripts-have, threads-did, workers-did, all-free}
+use Rattle.script_run.proofs.EndedActors.{in-order, all-unstarted, scripts-have, threads-did, workers-did, all-free}
 use Rattle.script_run.proofs.running.in_turns.Goals as goal
 
 pub step_all-requires-clause-order : goal.step_all-requires-clause-order
@@ -11,7 +11,7 @@ step_all-requires-clause-order g c κs within =
 
 pub step_all-requires-clause-fresh : goal.step_all-requires-clause-fresh
 step_all-requires-clause-fresh g c κs within =
-    all-fresh _ c.args.script.threads c.args.script.workers c.in_ok-opening.opening.actors.items c.in_ok-opening.ensures.actors
+    all-unstarted _ c.args.script.threads c.args.script.workers c.in_ok-opening.opening.actors.items c.in_ok-opening.ensures.actors
 
 pub retire_all-requires : goal.retire_all-requires
 retire_all-requires g c =

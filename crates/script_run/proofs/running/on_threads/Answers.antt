@@ -3,7 +3,7 @@ use Rattle.std.proofs.lemmas.List.{length-map}
 use Rattle.shared_hub.specs.HubStates.{hub_seen}
 use Rattle.script_run.proofs.Ran.{ran-of}
 use Rattle.script_run.proofs.Loading.{others-stay, whole-ended}
-use Rattle.script_run.proofs.EndedActors.{in-order, all-fresh, threads-did, workers-did}
+use Rattle.script_run.proofs.EndedActors.{in-order, all-unstarted, threads-did, workers-did}
 use Rattle.script_run.proofs.running.on_threads.Goals as goal
 
 pub new-requires-clause-few : goal.new-requires-clause-few
@@ -17,7 +17,7 @@ new-requires-clause-order g c κs within =
 
 pub new-requires-clause-fresh : goal.new-requires-clause-fresh
 new-requires-clause-fresh g c κs within =
-    all-fresh _ c.args.script.threads c.args.script.workers c.in_ok-opening.opening.actors.items c.in_ok-opening.ensures.actors
+    all-unstarted _ c.args.script.threads c.args.script.workers c.in_ok-opening.opening.actors.items c.in_ok-opening.ensures.actors
 
 pub returns-clause-ran : goal.returns-clause-ran
 returns-clause-ran g c =

@@ -1,4 +1,4 @@
-use Rattle.env_loop.proofs.FreshAndEnded.{ended-actors-hold-none}
+use Rattle.env_loop.proofs.UnstartedAndEnded.{ended-actors-hold-none}
 use Rattle.env_loop.proofs.actor.standing.ended_actors_hold_no_work.Goals as goal
 
 pub returns : goal.returns

@@ -12,7 +12,7 @@ use Rattle.napi_types.proofs.all_runs.WorkersStand.{workers-stand-as-the-hub-say
 use Rattle.shared_hub.specs.HubStates.{HubSeen, hub_seen}
 use Rattle.shared_hub.specs.declared.naming.Numbers.{Numbers}
 use Rattle.env_loop.specs.ActorRuns.{IsThreadOf, WorkerSeen, IsWorkerOf, HeldWork, NoWork, Started, Executed, IsHeld, IsHandsFree, worker_state}
-use Rattle.env_loop.specs.FreshAndEnded.{FreshActorsStand, EndedActorsHoldNoWork}
+use Rattle.env_loop.specs.UnstartedAndEnded.{UnstartedActorsStand, EndedActorsHoldNoWork}
 use Rattle.env_loop.specs.OpenedAndGone.{OpenedRunsFit}
 use Rattle.env_loop.specs.RecordedRuns.{FitsHub, hub_begun}
 use Rattle.env_loop.specs.RunsOverRows.{IsReplayed}
@@ -35,10 +35,10 @@ opened-runs-fit n r opened = record {
     start : r.core.position ≡ 0
     start = λ i. (opened.core i).position
 
-pub fresh-actors-stand : (J : Type 0) → FreshActorsStand J
-fresh-actors-stand J n (run.OfThread t) at fresh =
+pub unstarted-actors-stand : (J : Type 0) → UnstartedActorsStand J
+unstarted-actors-stand J n (run.OfThread t) at fresh =
     subst (IsThreadOf n (hub_seen n [])) (sym fresh) (record { there = at; stands = record { keeps = tt; made_is = refl; left_is = refl } })
-fresh-actors-stand J n (run.OfWorker w) at fresh =
+unstarted-actors-stand J n (run.OfWorker w) at fresh =
     subst (IsWorkerOf n (hub_seen n [])) (sym fresh) (record { there = at; stands = refl; held = tt })
 
 -- a worker that executes a work has not ended

@@ -8,12 +8,12 @@ use std::marker::Model;
 
 /// A thread of a script of which no turn was made. Contracts see its run.
 #[derive(Drop)]
-pub struct FreshThread {
+pub struct UnstartedThread {
     number: u32,
     operations: OpList,
 }
 
-impl Model for FreshThread {
+impl Model for UnstartedThread {
     ghost use Rattle.env_loop.specs.ActorRuns.{ThreadSeen, IsThreadRun, new_thread};
 
     ghost Value = { ThreadSeen };
@@ -23,14 +23,14 @@ impl Model for FreshThread {
     ghost invariant = { λ idle. IsThreadRun idle.operations 0 };
 }
 
-impl FreshThread {
+impl UnstartedThread {
     /// The thread of this number. Its operations, at most 16,384, are of the three kinds that threads make.
-    pub(crate) fn new(number: u32, operations: OpList) -> FreshThread
+    pub(crate) fn new(number: u32, operations: OpList) -> UnstartedThread
         requires few { length operations ≤ 16384 }
         requires kinds { All IsOperationOfThread operations }
         ensures { result ≡ new_thread number operations }
     {
-        FreshThread { number, operations }
+        UnstartedThread { number, operations }
     }
 
     /// Its number, and its operations.
@@ -39,14 +39,14 @@ impl FreshThread {
         ensures few { length result.1 ≤ 16384 }
         ensures kinds { All IsOperationOfThread result.1 }
     {
-        let FreshThread { number, operations } = self;
+        let UnstartedThread { number, operations } = self;
         (number, operations)
     }
 }
 
 /// A thread of a script, or a worker, of which no turn was made. It may be let go, which its run may not.
 #[derive(Drop)]
-pub enum FreshActor {
-    Thread(FreshThread),
+pub enum UnstartedActor {
+    Thread(UnstartedThread),
     Worker(u32),
 }
