@@ -14,7 +14,7 @@ use Rattle.runner.specs.declared.unstarted.Unstarted.{Unstarted}
 use Rattle.runner.specs.AtPasses.{IsAtPass}
 use Rattle.runner.specs.Crews.{runs_of}
 use Rattle.runner.specs.Environments.{HasFollowedOnAtPass, OfFirst}
-use Rattle.runner.specs.Places.{IsNumberedPass, AreBack, ComeBehind, AreAllBack}
+use Rattle.runner.specs.StartRoom.{IsNumberedPass, AreBack, ComeBehind, AreAllBack}
 
 -- a run that is of the opened one
 pub ran-from : (n : Numbers) (plans : List Plan) (r s : Run) (before : AddonStates) (p : PassState) (env : Run) (after : AddonStates) → r ≡ s

@@ -14,7 +14,7 @@ use Rattle.runner.specs.declared.unstarted.Back.TheVariants as back
 use Rattle.runner.specs.declared.unstarted.Unstarted.{Unstarted}
 use Rattle.runner.specs.Backs.{IsUnstartedAt, KeepsActor}
 use Rattle.runner.specs.Crews.{runs_of}
-use Rattle.runner.specs.Places.{IsGiven, IsBack, IsUnstartedStrayAt, IsEndedAt, Fills, AddsPlace}
+use Rattle.runner.specs.StartRoom.{IsGiven, IsBack, IsUnstartedStrayAt, IsEndedAt, Fills, AddsPlace}
 use Rattle.runner.specs.ActorsAtTheLock.{IsUnstartedStray, HasEndedStray}
 
 module _ {J : Type 0} where

@@ -13,7 +13,7 @@ use Rattle.runner.specs.declared.strays.Stray.{Stray}
 use Rattle.runner.specs.declared.unstarted.Back.TheVariants as back
 use Rattle.runner.specs.declared.unstarted.Unstarted.{Unstarted}
 use Rattle.runner.specs.Backs.{KeepsActor}
-use Rattle.runner.specs.Places.{IsGiven, IsEndedAt, IsBack, Fills, AreBack, ComeBehind}
+use Rattle.runner.specs.StartRoom.{IsGiven, IsEndedAt, IsBack, Fills, AreBack, ComeBehind}
 use Rattle.runner.proofs.FilledPlaces.{back-is}
 
 module _ {J : Type 0} where

@@ -22,7 +22,7 @@ use Rattle.env_loop.specs.declared.actor.ActorRun.TheVariants as run
 use Rattle.env_loop.specs.declared.actor.unstarted.UnstartedActor.{UnstartedActor}
 use Rattle.runner.specs.declared.unstarted.Unstarted.{Unstarted}
 use Rattle.runner.specs.Crews.{runs_of, IsCrew}
-use Rattle.runner.specs.Places.{AreUnstarted}
+use Rattle.runner.specs.StartRoom.{AreUnstarted}
 
 -- a list that is made one by one of another
 pub made-more : {A B : Type 0} (f : A → B) (done done' : List A) (x : A) (y : B) (left left' all : List B) → done' ≡ done ++ x ∷ [] → f x ≡ y → left ≡ y ∷ left'

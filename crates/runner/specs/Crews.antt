@@ -8,10 +8,10 @@ use Rattle.env_loop.specs.ActorTurns.{unstarted_run}
 use Rattle.env_loop.specs.RecordedRuns.{Run}
 use Rattle.env_loop.specs.Recording.{AddonStates}
 use Rattle.env_loop.specs.declared.actor.ActorRun.{ActorRun}
-use Rattle.runner.specs.declared.places.Places.{Places}
+use Rattle.runner.specs.declared.start_room.StartRoom.{StartRoom}
 use Rattle.runner.specs.declared.unstarted.Unstarted.{Unstarted}
 use Rattle.runner.specs.Environments.{HasFollowedOnAtPass, OfFirst}
-use Rattle.runner.specs.Places.{IsNumberedPass, AreUnstarted, AreAllBack}
+use Rattle.runner.specs.StartRoom.{IsNumberedPass, AreUnstarted, AreAllBack}
 
 -- the runs of actors that wait
 abbrev pub runs_of : (J : Type 0) → List Unstarted → List (ActorRun J)
@@ -25,16 +25,16 @@ pub record IsCrew (J : Type 0) (n : Numbers) (h : TurnState) (first : PassState)
   pub unstarted : AreUnstarted J n h 1 crew
 
 -- room for what becomes of so many starts, and for their passes beside the environment's
-pub record HasPlaces {J N : Type 0} (len : ℕ) (p : Places J N) : Type 0 where
+pub record HasStartRoom {J N : Type 0} (len : ℕ) (p : StartRoom J N) : Type 0 where
   pub children : len ≤ vec_capacity p.children
   pub strays : len ≤ vec_capacity p.strays
   pub passes : 1 + len ≤ vec_capacity p.passes
 
 -- a crew that has all that its run on threads takes: so many words, one for each actor, and room
-pub record IsEquipped {J N : Type 0} (n : Numbers) (h : TurnState) (first : PassState) (crew : List Unstarted) (count : ℕ) (p : Places J N) : Type 0 where
+pub record IsEquipped {J N : Type 0} (n : Numbers) (h : TurnState) (first : PassState) (crew : List Unstarted) (count : ℕ) (p : StartRoom J N) : Type 0 where
   pub members : IsCrew J n h first crew
   pub words : count ≡ length crew
-  pub room : HasPlaces (length crew) p
+  pub room : HasStartRoom (length crew) p
 
 -- the environment is gone, all other actors have ended, and all passes came back
 pub record IsLeft (J : Type 0) (n : Numbers) (h : TurnState) (crew : List Unstarted) (plans : List Plan) (opened : Run) (before : AddonStates) (env : Run)

@@ -2,5 +2,5 @@ pub mod AtPasses
 pub mod ActorsAtTheLock
 pub mod Environments
 pub mod Backs
-pub mod Places
+pub mod StartRoom
 pub mod Crews

@@ -11,8 +11,8 @@ ghost use Rattle.env_loop.specs.declared.actor.ActorRun.{ActorRun};
 
 use crate::closing::close;
 use crate::making::{Equipment, equipment_for, passes_for, with_passes};
-use crate::places::Places;
 use crate::running::{Left, run_in_scope};
+use crate::start_room::StartRoom;
 use crate::unstarted::{Opened, Unstarted};
 use addon_trait::Addon;
 use async_work::Job;
@@ -38,7 +38,7 @@ pub struct Crew<J: Job, N: Naming> {
     unstarted: Vec<Unstarted>,
     /// A word for each of them: it is set where its start was refused.
     words: Vec<AtomicU64>,
-    places: Places<J, N>,
+    places: StartRoom<J, N>,
 }
 
 impl<J: Job, N: Naming> Model for Crew<J, N> {

@@ -3,7 +3,7 @@ ghost use Rattle.std.specs.Prelude.{◌≡◌, ℕ, ◌+◌, ◌≤◌, List, �
 ghost use Rattle.env_loop.specs.ActorTurns.{HoldsNoWork};
 ghost use Rattle.env_loop.specs.declared.actor.ActorRun.{ActorRun};
 ghost use Rattle.runner.specs.Backs.{KeepsActor};
-ghost use Rattle.runner.specs.Places.{Fills, IsGiven, IsEndedAt, IsBack, ComeBehind};
+ghost use Rattle.runner.specs.StartRoom.{Fills, IsGiven, IsEndedAt, IsBack, ComeBehind};
 ghost use Rattle.runner.specs.declared.start.Child.{Child};
 ghost use Rattle.runner.specs.declared.unstarted.Unstarted.{Unstarted};
 

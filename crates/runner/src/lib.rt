@@ -9,9 +9,9 @@ mod crew;
 mod environment;
 mod join;
 mod making;
-mod places;
 mod running;
 mod start;
+mod start_room;
 mod strays;
 mod unstarted;
 

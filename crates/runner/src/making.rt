@@ -2,9 +2,9 @@
 ghost use Rattle.std.specs.Prelude.{◌≡◌, ◌+◌, ◌<◌, ◌≤◌, ◌^◌, [], ◌∷◌, IfOk, map, vec_len, vec_capacity};
 ghost use Rattle.std.specs.List.{All};
 ghost use Rattle.env_loop.specs.ActorTurns.{unstarted_run, HoldsNoWork, IsUnstartedActor};
-ghost use Rattle.runner.specs.Crews.{HasPlaces};
+ghost use Rattle.runner.specs.Crews.{HasStartRoom};
 
-use crate::places::Places;
+use crate::start_room::StartRoom;
 use crate::unstarted::Unstarted;
 use async_work::Job;
 use env_loop::{ActorRun, UnstartedActor};
@@ -92,14 +92,14 @@ pub(crate) fn with_passes(
 pub(crate) fn places_for<J: Job, N: Naming>(
     alloc: Global,
     len: usize,
-) -> Result<Places<J, N>, NoMemory>
+) -> Result<StartRoom<J, N>, NoMemory>
     requires { len < 2 ^ 32 }
-    ensures { IfOk result (λ places. HasPlaces len places) }
+    ensures { IfOk result (λ places. HasStartRoom len places) }
 {
     let children = Vec::with_capacity(alloc, len)?;
     let passes = Vec::with_capacity(alloc, 1 + len)?;
     let strays = Vec::with_capacity(alloc, len)?;
-    Ok(Places {
+    Ok(StartRoom {
         children,
         strays,
         passes,
@@ -111,7 +111,7 @@ pub(crate) struct Equipment<J: Job, N: Naming> {
     pub(crate) idle: Vec<UnstartedActor>,
     pub(crate) words: Vec<AtomicU64>,
     pub(crate) unstarted: Vec<Unstarted>,
-    pub(crate) places: Places<J, N>,
+    pub(crate) places: StartRoom<J, N>,
 }
 
 /// Takes it for these actors. Where there is no memory they are ended without an event.
@@ -125,7 +125,7 @@ pub(crate) fn equipment_for<J: Job, N: Naming>(
     ensures words { IfOk result (λ e. vec_len e.words ≡ vec_len e.idle) }
     ensures none { IfOk result (λ e. e.unstarted.items ≡ []) }
     ensures room { IfOk result (λ e. vec_len e.idle ≤ vec_capacity e.unstarted) }
-    ensures places { IfOk result (λ e. HasPlaces (vec_len e.idle) e.places) }
+    ensures places { IfOk result (λ e. HasStartRoom (vec_len e.idle) e.places) }
 {
     let idle = idle_actors(alloc, actors)?;
     let words = words_for(alloc, idle.len())?;

@@ -2,12 +2,12 @@
 ghost use Rattle.std.specs.Prelude.{◌≡◌, ◌≤◌, length, map, drop};
 ghost use Rattle.addon_trait.specs.Addons.{TellSamePlans};
 ghost use Rattle.env_loop.specs.Recording.{states_of};
-ghost use Rattle.runner.specs.Crews.{IsCrew, HasPlaces, IsLeft};
+ghost use Rattle.runner.specs.Crews.{IsCrew, HasStartRoom, IsLeft};
 
 use crate::environment::run_env;
 use crate::join::join_all;
-use crate::places::Places;
 use crate::start::start_all;
+use crate::start_room::StartRoom;
 use crate::unstarted::{Opened, Unstarted};
 use addon_trait::Addon;
 use async_work::Job;
@@ -36,13 +36,13 @@ pub(crate) fn run_in_scope<J: Job, N: Naming + Send + Sync, R: Threads + Wait + 
     gate: &G,
     first: Pass,
     crew: Vec<Unstarted>,
-    places: Places<J, N>,
+    places: StartRoom<J, N>,
     env: Opened,
     addons: Vec<Box<dyn Addon>>,
 ) -> Left
     requires crew { IsCrew J N.numbers hub.now first crew.items }
     requires words { length words.now ≡ length crew.items }
-    requires room { HasPlaces (length crew.items) places }
+    requires room { HasStartRoom (length crew.items) places }
     requires enough { env.core.env.addons ≤ length addons.items }
     ensures plans { TellSamePlans (λ b. plan b) addons.items result.addons.items }
     ensures left { let before = states_of (λ b. regs b) (λ b. seen b) addons.items in
@@ -57,7 +57,7 @@ pub(crate) fn run_in_scope<J: Job, N: Naming + Send + Sync, R: Threads + Wait + 
         move |scope| -> Left
             requires crew { IsCrew J N.numbers hub.now first crew.items }
             requires words { length words.now ≡ length crew.items }
-            requires room { HasPlaces (length crew.items) places }
+            requires room { HasStartRoom (length crew.items) places }
             requires enough { env.core.env.addons ≤ length addons.items }
             ensures plans { TellSamePlans (λ b. plan b) addons.items result.addons.items }
             ensures left { let before = states_of (λ b. regs b) (λ b. seen b) addons.items in
@@ -82,13 +82,13 @@ fn run_all<'s, E, J: Job + 's, N: Naming + Send + Sync + 's, R: Threads + Wait +
     gate: &'s G,
     first: Pass,
     crew: Vec<Unstarted>,
-    places: Places<J, N>,
+    places: StartRoom<J, N>,
     env: Opened,
     addons: Vec<Box<dyn Addon>>,
 ) -> Left
     requires crew { IsCrew J N.numbers hub.now first crew.items }
     requires words { length words.now ≡ length crew.items }
-    requires room { HasPlaces (length crew.items) places }
+    requires room { HasStartRoom (length crew.items) places }
     requires enough { env.core.env.addons ≤ length addons.items }
     ensures plans { TellSamePlans (λ b. plan b) addons.items result.addons.items }
     ensures left { let before = states_of (λ b. regs b) (λ b. seen b) addons.items in

@@ -2,7 +2,7 @@
 ghost use Rattle.std.specs.Prelude.{◌≡◌, ◌+◌, ◌<◌, ◌≤◌, [], IfOk, IfErr, length, vec_len, vec_capacity};
 ghost use Rattle.runner.specs.Backs.{IsUnstartedAt, KeepsActor};
 ghost use Rattle.runner.specs.Crews.{runs_of};
-ghost use Rattle.runner.specs.Places.{AreUnstarted, Fills, IsUnstartedStrayAt, AddsPlace};
+ghost use Rattle.runner.specs.StartRoom.{AreUnstarted, Fills, IsUnstartedStrayAt, AddsPlace};
 
 use crate::actor::run_actor;
 use crate::strays::Stray;

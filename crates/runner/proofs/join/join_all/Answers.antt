@@ -1,7 +1,7 @@
 use Rattle.std.proofs.Common.{rules, ◌≡◌, [], ◌∷◌, length, vec_len, sym, ap, subst, arith}
 use Rattle.std.proofs.lemmas.List.{nil_from_length}
 use Rattle.std.specs.Vec.Iter.{into_iter_items}
-use Rattle.runner.specs.Places.{Fills, IsEndedAt}
+use Rattle.runner.specs.StartRoom.{Fills, IsEndedAt}
 use Rattle.runner.proofs.JoinedActors.{Joining, joining-none, joining-more, joining-all, joining-none-left}
 use Rattle.runner.proofs.join.join_all.Goals as goal
 

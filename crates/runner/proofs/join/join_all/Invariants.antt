@@ -1,7 +1,7 @@
 use Rattle.std.specs.Prelude.{◌+◌, ◌≤◌, List, vec_len, vec_capacity}
 use Rattle.std.specs.Vec.Iter.{into_iter_items, into_iter_len}
 use Rattle.env_loop.specs.declared.actor.ActorRun.{ActorRun}
-use Rattle.runner.specs.Places.{Fills, IsEndedAt}
+use Rattle.runner.specs.StartRoom.{Fills, IsEndedAt}
 use Rattle.runner.proofs.JoinedActors.{Joining}
 use Rattle.runner.proofs.join.join_all.Given as goal
 

@@ -1,6 +1,6 @@
 use Rattle.std.proofs.Common.{rules, ◌≡◌, ◌∙◌, ◌∷◌, length, vec_len, slice_index_or, sym, ap, subst, arith}
 use Rattle.env_loop.specs.ActorTurns.{HoldsNoWork}
-use Rattle.runner.specs.Places.{Fills, IsEndedAt}
+use Rattle.runner.specs.StartRoom.{Fills, IsEndedAt}
 use Rattle.runner.proofs.JoinedActors.{given-runs, next-stray, stray-holds-none}
 use Rattle.runner.proofs.join.join_one.Goals as goal
 

@@ -1,6 +1,6 @@
 use Rattle.std.specs.Prelude.{◌≡◌, ◌+◌, ◌≤◌, vec_len, vec_capacity}
 use Rattle.std.specs.Vec.Iter.{into_iter_items, into_iter_len}
-use Rattle.runner.specs.Places.{AreUnstarted}
+use Rattle.runner.specs.StartRoom.{AreUnstarted}
 use Rattle.runner.proofs.FilledPlaces.{FillsBehind}
 use Rattle.runner.proofs.start.start_all.Given as goal
 

@@ -2,7 +2,7 @@ use Rattle.std.proofs.Common.{◌≡◌, ◌∙◌, ◌+◌, length, map, ap, sy
 use Rattle.std.specs.List.{range_with_len}
 use Rattle.std.proofs.lemmas.List.FromFn.{length-map-range_with_len}
 use Rattle.turn_lock.specs.Passes.{new_pass}
-use Rattle.runner.specs.Crews.{HasPlaces}
+use Rattle.runner.specs.Crews.{HasStartRoom}
 use Rattle.runner.proofs.MadeCrews.{all-actors-many, idle-many, unstarted-many, runs-are, members-are}
 use Rattle.runner.proofs.crew.Crew.new.Goals as goal
 
@@ -39,7 +39,7 @@ invariant_of-result g c =
     record {
       members = members-are n hub first unstarted.items actors runs c.requires.order c.requires.fresh passes;
       words = omega (arith, c.in-Ok.ensures.words, idle.ok.0, waits);
-      room = subst (λ k. HasPlaces k c.in-Ok.equipment.places) (idle.ok.0 ∙ sym waits) c.in-Ok.ensures.places;
+      room = subst (λ k. HasStartRoom k c.in-Ok.equipment.places) (idle.ok.0 ∙ sym waits) c.in-Ok.ensures.places;
     }
 
 pub returns : goal.returns

@@ -8,7 +8,7 @@ use shared_hub::Naming;
 use turn_lock::Pass;
 
 /// Places of what becomes of the starts, of those that have no thread of their own, and of the passes that come back. All are empty.
-pub(crate) struct Places<J: Job, N: Naming> {
+pub(crate) struct StartRoom<J: Job, N: Naming> {
     pub(crate) children: Vec<Child<J, N>>,
     pub(crate) strays: Vec<Stray<J>>,
     pub(crate) passes: Vec<Pass>,
@@ -17,14 +17,14 @@ pub(crate) struct Places<J: Job, N: Naming> {
     ghost no_passes: { passes.items ≡ [] },
 }
 
-impl<J: Job, N: Naming> Places<J, N> {
+impl<J: Job, N: Naming> StartRoom<J, N> {
     /// The three lists, which are empty.
     pub(crate) fn into_lists(self) -> (Vec<Child<J, N>>, Vec<Stray<J>>, Vec<Pass>)
         ensures children { result.0 ≡ self.children }
         ensures strays { result.1 ≡ self.strays }
         ensures passes { result.2 ≡ self.passes }
     {
-        let Places {
+        let StartRoom {
             children,
             strays,
             passes,
@@ -33,9 +33,9 @@ impl<J: Job, N: Naming> Places<J, N> {
     }
 }
 
-impl<J: Job, N: Naming> Drop for Places<J, N> {
+impl<J: Job, N: Naming> Drop for StartRoom<J, N> {
     fn drop(self) {
-        let Places {
+        let StartRoom {
             children: _,
             strays,
             passes: _,
