@@ -10,9 +10,9 @@ use Rattle.env_loop.specs.declared.actor.ActorRun.{ActorRun}
 use Rattle.runner.specs.declared.start.Child.{Child}
 use Rattle.runner.specs.declared.start.Child.TheVariants as child
 use Rattle.runner.specs.declared.strays.Stray.{Stray}
-use Rattle.runner.specs.declared.unstarted.Back.TheVariants as back
+use Rattle.runner.specs.declared.unstarted.HandedBack.TheVariants as back
 use Rattle.runner.specs.declared.unstarted.Unstarted.{Unstarted}
-use Rattle.runner.specs.Backs.{IsUnstartedAt, KeepsActor}
+use Rattle.runner.specs.HandedBack.{IsUnstartedAt, KeepsActor}
 use Rattle.runner.specs.Crews.{runs_of}
 use Rattle.runner.specs.StartRoom.{IsGiven, IsBack, IsUnstartedStrayAt, IsEndedAt, Fills, AddsPlace}
 use Rattle.runner.specs.ActorsAtTheLock.{IsUnstartedStray, HasEndedStray}

@@ -10,9 +10,9 @@ use Rattle.env_loop.proofs.UnstartedAndEnded.{ended-actors-hold-none}
 use Rattle.runner.specs.declared.start.Child.{Child}
 use Rattle.runner.specs.declared.start.Child.TheVariants as child
 use Rattle.runner.specs.declared.strays.Stray.{Stray}
-use Rattle.runner.specs.declared.unstarted.Back.TheVariants as back
+use Rattle.runner.specs.declared.unstarted.HandedBack.TheVariants as back
 use Rattle.runner.specs.declared.unstarted.Unstarted.{Unstarted}
-use Rattle.runner.specs.Backs.{KeepsActor}
+use Rattle.runner.specs.HandedBack.{KeepsActor}
 use Rattle.runner.specs.StartRoom.{IsGiven, IsEndedAt, IsBack, Fills, AreBack, ComeBehind}
 use Rattle.runner.proofs.FilledPlaces.{back-is}
 

@@ -1,5 +1,5 @@
 pub mod ActorsAtTurns
-pub mod AllBack
+pub mod AllHandedBack
 pub mod ClosedRuns
 pub mod EnvironmentAtTheLock
 pub mod FilledPlaces

@@ -1,6 +1,6 @@
 pub mod AtPasses
 pub mod ActorsAtTheLock
 pub mod Environments
-pub mod Backs
+pub mod HandedBack
 pub mod StartRoom
 pub mod Crews

@@ -9,7 +9,7 @@ use Rattle.runner.specs.declared.start.Child.TheVariants as child
 use Rattle.runner.specs.declared.strays.Stray.{Stray}
 use Rattle.runner.specs.declared.unstarted.Unstarted.{Unstarted}
 use Rattle.runner.specs.AtPasses.{IsAtPass, HasEndedAt}
-use Rattle.runner.specs.Backs.{IsUnstartedAt}
+use Rattle.runner.specs.HandedBack.{IsUnstartedAt}
 use Rattle.runner.specs.ActorsAtTheLock.{IsUnstartedStray}
 
 -- the pass of a number of this lock, which does not hold

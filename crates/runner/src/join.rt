@@ -2,7 +2,7 @@
 ghost use Rattle.std.specs.Prelude.{◌≡◌, ℕ, ◌+◌, ◌≤◌, List, ◌∷◌, vec_capacity, vec_len};
 ghost use Rattle.env_loop.specs.ActorTurns.{HoldsNoWork};
 ghost use Rattle.env_loop.specs.declared.actor.ActorRun.{ActorRun};
-ghost use Rattle.runner.specs.Backs.{KeepsActor};
+ghost use Rattle.runner.specs.HandedBack.{KeepsActor};
 ghost use Rattle.runner.specs.StartRoom.{Fills, IsGiven, IsEndedAt, IsBack, ComeBehind};
 ghost use Rattle.runner.specs.declared.start.Child.{Child};
 ghost use Rattle.runner.specs.declared.unstarted.Unstarted.{Unstarted};
@@ -10,7 +10,7 @@ ghost use Rattle.runner.specs.declared.unstarted.Unstarted.{Unstarted};
 use crate::actor::run_actor;
 use crate::start::Child;
 use crate::strays::Stray;
-use crate::unstarted::{Back, Unstarted};
+use crate::unstarted::{HandedBack, Unstarted};
 use async_work::Job;
 use hub_lock::Hub;
 use napi_types::Gate;
@@ -70,15 +70,15 @@ fn ended_pass<J: Job, N: Naming, R: Wait, G: Gate>(
     rt: &R,
     hub: &Hub<J, N>,
     gate: &G,
-    back: Back,
+    back: HandedBack,
 ) -> Pass
     requires { (k : ℕ) × (actor : ActorRun J) × (given : Unstarted) × IsGiven N.numbers hub.now k actor given × KeepsActor J N.numbers given back }
     ensures { (k : ℕ) (actor : ActorRun J) (given : Unstarted) → IsGiven N.numbers hub.now k actor given → KeepsActor J N.numbers given back
         → IsBack N.numbers hub.now k actor result }
 {
     match back {
-        Back::Ran(pass) => pass,
-        Back::Unused(unstarted) => {
+        HandedBack::Ran(pass) => pass,
+        HandedBack::Unused(unstarted) => {
             let Unstarted { actor, mut pass } = unstarted;
             run_actor(rt, hub, &mut pass, actor.into_run::<J>(), gate);
             pass

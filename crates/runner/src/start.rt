@@ -1,12 +1,12 @@
 //! Starts of threads, one for each actor.
 ghost use Rattle.std.specs.Prelude.{◌≡◌, ◌+◌, ◌<◌, ◌≤◌, [], IfOk, IfErr, length, vec_len, vec_capacity};
-ghost use Rattle.runner.specs.Backs.{IsUnstartedAt, KeepsActor};
+ghost use Rattle.runner.specs.HandedBack.{IsUnstartedAt, KeepsActor};
 ghost use Rattle.runner.specs.Crews.{runs_of};
 ghost use Rattle.runner.specs.StartRoom.{AreUnstarted, Fills, IsUnstartedStrayAt, AddsPlace};
 
 use crate::actor::run_actor;
 use crate::strays::Stray;
-use crate::unstarted::{Back, Unstarted};
+use crate::unstarted::{HandedBack, Unstarted};
 use async_work::Job;
 use hub_lock::Hub;
 use napi_types::Gate;
@@ -18,15 +18,15 @@ use std::sync::atomic::{AtomicU64, Ordering};
 use std::thread::{Promise, PromisedHandle, Scope, Threads};
 use turn_lock::Pass;
 
-/// What comes back is of the actor that was given.
+/// The promise of a start: the thread hands back the actor that it was given, ended or unused.
 #[derive(Drop)]
 pub(crate) struct OfActor<J: Job, N: Naming> {
     given: Snapshot<Unstarted>,
     of: PhantomData<(J, N)>,
 }
 
-impl<J: Job, N: Naming> Promise<Back> for OfActor<J, N> {
-    ghost use Rattle.runner.specs.Backs.{KeepsActor};
+impl<J: Job, N: Naming> Promise<HandedBack> for OfActor<J, N> {
+    ghost use Rattle.runner.specs.HandedBack.{KeepsActor};
 
     ghost kept_by = { λ p back. KeepsActor J N.numbers p.given.value back };
 }
@@ -35,7 +35,7 @@ impl<J: Job, N: Naming> Promise<Back> for OfActor<J, N> {
 #[derive(Drop)]
 pub(crate) enum Child<J: Job, N: Naming> {
     /// A thread runs it.
-    Runs(PromisedHandle<Back, OfActor<J, N>>),
+    Runs(PromisedHandle<HandedBack, OfActor<J, N>>),
     /// It has ended, and its pass came back.
     Done(Pass),
     /// It has no thread of its own: it is the next of the strays.
@@ -49,16 +49,16 @@ fn live<J: Job, N: Naming, R: Wait, G: Gate>(
     gate: &G,
     word: &AtomicU64,
     unstarted: Unstarted,
-) -> Back
+) -> HandedBack
     requires { IsUnstartedAt J N.numbers hub.now unstarted }
     ensures { KeepsActor J N.numbers unstarted result }
 {
     if word.load(Ordering::SeqCst) > 0 {
-        return Back::Unused(unstarted);
+        return HandedBack::Unused(unstarted);
     }
     let Unstarted { actor, mut pass } = unstarted;
     run_actor(rt, hub, &mut pass, actor.into_run(), gate);
-    Back::Ran(pass)
+    HandedBack::Ran(pass)
 }
 
 /// Starts an actor on a thread of the scope. Where the start is refused the actor comes back.
@@ -76,7 +76,7 @@ pub(crate) fn start_one<
     gate: &'s G,
     word: &'s AtomicU64,
     unstarted: Unstarted,
-) -> Result<PromisedHandle<Back, OfActor<J, N>>, Back>
+) -> Result<PromisedHandle<HandedBack, OfActor<J, N>>, HandedBack>
     requires { IsUnstartedAt J N.numbers hub.now unstarted }
     ensures started { IfOk result (λ child. child.promise.given.value ≡ unstarted) }
     ensures refused { IfErr result (λ back. KeepsActor J N.numbers unstarted back) }
@@ -87,7 +87,7 @@ pub(crate) fn start_one<
     };
     match scope.spawn_with(
         promise,
-        move || -> Back
+        move || -> HandedBack
             requires { IsUnstartedAt J N.numbers hub.now unstarted }
             ensures { KeepsActor J N.numbers unstarted result }
         { live(rt, hub, gate, word, unstarted) },
@@ -162,8 +162,8 @@ fn start_in_place<
 {
     match start_one(rt, scope, hub, gate, word, unstarted) {
         Ok(child) => children.push_reserved(Child::Runs(child)),
-        Err(Back::Ran(pass)) => children.push_reserved(Child::Done(pass)),
-        Err(Back::Unused(unstarted)) => {
+        Err(HandedBack::Ran(pass)) => children.push_reserved(Child::Done(pass)),
+        Err(HandedBack::Unused(unstarted)) => {
             let Unstarted { actor, pass } = unstarted;
             let actor = actor.into_run();
             strays.push_reserved(Stray { actor, pass });

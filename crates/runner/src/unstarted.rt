@@ -15,7 +15,7 @@ pub(crate) struct Unstarted {
 
 /// What a thread hands back.
 #[derive(Drop)]
-pub(crate) enum Back {
+pub(crate) enum HandedBack {
     /// The pass of an actor that has ended.
     Ran(Pass),
     /// An actor of which no turn was made.

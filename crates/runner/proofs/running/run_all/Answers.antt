@@ -1,7 +1,7 @@
 use Rattle.std.proofs.Common.{rules, ◌≡◌, ◌∙◌, [], ◌∷◌, ◌++◌, ap}
 use Rattle.runner.specs.Crews.{runs_of}
 use Rattle.runner.specs.StartRoom.{IsNumberedPass}
-use Rattle.runner.proofs.AllBack.{all-back, of-first, ran-from}
+use Rattle.runner.proofs.AllHandedBack.{all-back, of-first, ran-from}
 use Rattle.runner.proofs.FilledPlaces.{unstarted-strays, ended-places}
 use Rattle.runner.proofs.running.run_all.Goals as goal
 

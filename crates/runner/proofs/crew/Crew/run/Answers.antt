@@ -1,7 +1,7 @@
 use Rattle.std.proofs.Common.{◌≡◌, ◌+◌, length, false, arith}
 use Rattle.shared_hub.specs.HubStates.{hub_seen}
 use Rattle.runner.specs.Crews.{runs_of}
-use Rattle.runner.proofs.AllBack.{length-runs, all-numbers, all-passes, all-actors}
+use Rattle.runner.proofs.AllHandedBack.{length-runs, all-numbers, all-passes, all-actors}
 use Rattle.runner.proofs.crew.Crew.run.Goals as goal
 
 pub close-requires-clause-every : goal.close-requires-clause-every
