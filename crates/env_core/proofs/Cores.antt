@@ -41,27 +41,27 @@ use Rattle.napi_types.proofs.environment.AnswersKeep.{course-parts, KeepsButAsk,
 use Rattle.napi_types.proofs.environment.FrameChanges.{book_left, owed-left, KeepsButFrame, ended-keeps, left-parts}
 use Rattle.napi_types.proofs.environment.HookedSteps.{hooked-called, hooked-ended, hooked-begun, hooked-phase}
 use Rattle.napi_types.proofs.environment.Registrations.{owed-in}
-use Rattle.env_core.specs.Journal.{Pages, told_entry, last_reply}
+use Rattle.env_core.specs.Journal.{JournalSeen, told_entry, last_reply}
 use Rattle.env_core.specs.Core.{Core, IsCore, after_change, room_in}
 use Rattle.env_core.specs.State.{Calls}
 use Rattle.env_core.specs.CoreSteps.{Replies, OnLastReply}
 use Rattle.env_core.proofs.Beginning.{last-registered, length-duty}
 
 -- the core of an environment and a journal, and of what is awaited
-abbrev pub core_of : Environment → Pages → Option SharedCall → Core
+abbrev pub core_of : Environment → JournalSeen → Option SharedCall → Core
 core_of e pages awaited = record { env = e; journal = pages.entries; limit = pages.limit; position = pages.position; awaited = awaited }
 
 -- the journal with an entry more, and so many places promised
-abbrev pub written : Entry → ℕ → Pages → Pages
+abbrev pub written : Entry → ℕ → JournalSeen → JournalSeen
 written x promised pages = record pages { entries = pages.entries ++ record { at = pages.position; entry = x } ∷ []; promised = promised }
 
 -- WHAT A CORE KEEPS
-core-pushed : (old new : Environment) (pages after : Pages) (x : Entry) (k : ℕ) → IsCore old pages → after ≡ written x k pages
+core-pushed : (old new : Environment) (pages after : JournalSeen) (x : Entry) (k : ℕ) → IsCore old pages → after ≡ written x k pages
     → k ≡ reserved_journal new → length pages.entries + 1 + k ≤ pages.limit
     → new.heap.handles ≤ old.heap.handles + 1 → length new.heap.scope_numbers ≤ length old.heap.scope_numbers + 1 → length new.references.issued ≤ length old.references.issued + 1 → new.heap.made ≤ old.heap.made + 65537
     → length new.book ≤ length old.book + 1 → IsHooked new → IsCore new after
 core-pushed old new pages after x k c e promised room handles scopes references made tickets hooked =
-    let P : Pages → Type 0 = λ p. IsCore new p in
+    let P : JournalSeen → Type 0 = λ p. IsCore new p in
     let l : Local = record { at = pages.position; entry = x } in
     let grown : length (pages.entries ++ l ∷ []) ≡ length pages.entries + 1 = length-append pages.entries (l ∷ []) in
     subst P (sym e) (record {
@@ -112,12 +112,14 @@ pub record KeepsPlaces (promised : ℕ) (c : Call) (r : Reply) : Type 0 where
   pub made : 1 + 2 * one_if (is_some r.made) ≤ need c
   pub dropped : 2 * one_if (is_some r.dropped) ≤ promised + 2 * one_if (is_some r.made)
 
-pub places-kept : (old new : Environment) (pages : Pages) (c : Call) (r : Reply) → IsCore old pages → KeepsButAsk c old r new → KeepsPlaces pages.promised c r
+pub places-kept : (old new : Environment) (pages : JournalSeen) (c : Call) (r : Reply) → IsCore old pages → KeepsButAsk c old r new
+    → KeepsPlaces pages.promised c r
 places-kept old new pages c r core k =
     let law : reserved_journal new + 2 * one_if (is_some r.dropped) ≡ reserved_journal old + 2 * one_if (is_some r.made) = call-reserved old c r new k in
     record { made = k.makes.places; dropped = omega (arith, law, core.reserved) }
 
-pub core-call_change : (old new : Environment) (pages after : Pages) (c : Call) (x : Entry) (n : ℕ) → IsCore old pages → KeepsButAsk c old x.reply new → IsHooked new
+pub core-call_change : (old new : Environment) (pages after : JournalSeen) (c : Call) (x : Entry) (n : ℕ) → IsCore old pages → KeepsButAsk c old x.reply new
+    → IsHooked new
     → length pages.entries + pages.promised + need c ≤ pages.limit
     → n + 2 * one_if (is_some x.reply.dropped) ≡ pages.promised + 2 * one_if (is_some x.reply.made) → after ≡ written x n pages → IsCore new after
 core-call_change old new pages after c x n core k hooked room left e =
@@ -153,7 +155,7 @@ reserved-ended old new stands local k =
     let book : new.book ≡ book_left (cause_of old.frames) (duty_of old.frames) old.book = (left-parts old new k).book in
     rw (course.opened, course.phase, course.addons, course.inits, k.frames, book) (omega (arith, left, owed))
 
-pub core-ended : (old new : Environment) (pages after : Pages) (x : Entry) (v : Option HandleId) (cut : Option Why) → IsCore old pages → old.frames ≢ []
+pub core-ended : (old new : Environment) (pages after : JournalSeen) (x : Entry) (v : Option HandleId) (cut : Option Why) → IsCore old pages → old.frames ≢ []
     → is_hub_duty (duty_of old.frames) ≡ false → new ≡ (end_change v cut old).after → after ≡ written x (pages.promised - 1) pages → IsCore new after
 core-ended old new pages after x v cut c stands local h e =
     let K : Environment → Type 0 = λ s. KeepsButFrame old s in
@@ -194,7 +196,8 @@ next-may e n r hooked next there = by e.phase refl next
     by phase.Finals at is = due is
     by _ at is = cc
 
-pub core-begun : (old new : Environment) (pages after : Pages) (x : Entry) (n : ℕ) (r : Registration) → IsCore old pages → next_ticket old ≡ Some n → registration_at old.book n ≡ Some r
+pub core-begun : (old new : Environment) (pages after : JournalSeen) (x : Entry) (n : ℕ) (r : Registration) → IsCore old pages → next_ticket old ≡ Some n
+    → registration_at old.book n ≡ Some r
     → new ≡ (ticket_change n r old).after → after ≡ written x (pages.promised - 1) pages → IsCore new after
 core-begun old new pages after x n r c next there is e =
     let may : may_begin_in old.phase r.state ≡ true = next-may old n r c.hooked next there in
@@ -219,7 +222,8 @@ goes-on phase.Gone q next = let no : ⊥ = cc in absurd no
 goes-on _ q next = refl
 
 -- the phases before the last owe the same places
-pub core-phase : (old new : Environment) (pages after : Pages) (p : Phase) (n : ℕ) → IsCore old pages → next_phase old.phase ≡ Some p → p ≢ phase.Gone → new ≡ in_phase p old
+pub core-phase : (old new : Environment) (pages after : JournalSeen) (p : Phase) (n : ℕ) → IsCore old pages → next_phase old.phase ≡ Some p → p ≢ phase.Gone
+    → new ≡ in_phase p old
     → after ≡ record pages { position = n } → IsCore new after
 core-phase old new pages after p n c next stays is e =
     let places : gone_place p ≡ gone_place old.phase = one-place p stays ∙ sym (goes-on old.phase p next) in
@@ -254,7 +258,8 @@ pub other-at-once : (e : Environment) (c : Call) → is_calling c ≡ false → 
 other-at-once e c h = ap (λ b. b && is_none (refusal e c)) h
 
 -- a call fits where its places were promised
-pub fits-in : (e : Environment) (pages : Pages) (a : Option SharedCall) (c : Call) (n : ℕ) → IsCore e pages → need c ≡ n → length pages.entries + pages.promised + n ≤ pages.limit
+pub fits-in : (e : Environment) (pages : JournalSeen) (a : Option SharedCall) (c : Call) (n : ℕ) → IsCore e pages → need c ≡ n
+    → length pages.entries + pages.promised + n ≤ pages.limit
     → is_full (room_in (core_of e pages a)) c ≡ false
 fits-in e pages a c n k same room =
     le-ltb pages.limit (length pages.entries + reserved_journal e + need c) (omega (arith, k.reserved, same, room))
@@ -263,12 +268,13 @@ pub never-full : {X : Type 0} (b : Bool) → b ≡ false → IsTrue b → X
 never-full true h t = cc
 never-full false h t = cc
 
-after_change-as : (env new : Environment) (pages after : Pages) (a : Option SharedCall) (x : Entry) (k : ℕ) → after ≡ written x k pages
+after_change-as : (env new : Environment) (pages after : JournalSeen) (a : Option SharedCall) (x : Entry) (k : ℕ) → after ≡ written x k pages
     → core_of new after a ≡ after_change (record { entry = x; after = new }) (core_of env pages a)
 after_change-as env new pages after a x k e = ap (λ p. core_of new p a) e
 
 -- a reply is the machine's answer
-pub replied : (env new : Environment) (pages after : Pages) (a : Option SharedCall) (c : Call) (x : Entry) (k : ℕ) → after ≡ written x k pages → is_entering env c ≡ false
+pub replied : (env new : Environment) (pages after : JournalSeen) (a : Option SharedCall) (c : Call) (x : Entry) (k : ℕ) → after ≡ written x k pages
+    → is_entering env c ≡ false
     → is_full (room_in (core_of env pages a)) c ≡ false → Calls env c x new → Replies (core_of env pages a) c x.reply (core_of new after a)
 replied env new pages after a c x k e once fits calls = record {
   at_once = once;
@@ -282,7 +288,7 @@ replied env new pages after a c x k e once fits calls = record {
 }
 
 -- the entry of a call, where it tells how many frames stand and the number of the ask
-pub written-call : (e : Environment) (depth step : ℕ) (c : Call) (r : Reply) (k : ℕ) (pages : Pages) → depth ≡ length e.frames → step ≡ asks_made e.frames
+pub written-call : (e : Environment) (depth step : ℕ) (c : Call) (r : Reply) (k : ℕ) (pages : JournalSeen) → depth ≡ length e.frames → step ≡ asks_made e.frames
     → written (told_entry depth step c r) k pages ≡ written (call_entry e c r) k pages
 written-call e depth step c r k pages d s = rw (d, s) refl
 
@@ -293,12 +299,14 @@ last-one xs x =
     ap (slice_get (xs ++ x ∷ [])) (omega (arith, long))
     ∙ slice_get_read (xs ++ x ∷ []) (length (xs ++ x ∷ [])) (length xs) x refl (omega (arith, long)) (sym (get_or-append_seam xs x [] x))
 
-pub last-written : (pages after : Pages) (x : Entry) (k : ℕ) → after ≡ written x k pages → last_reply after.entries ≡ Some x.reply
+pub last-written : (pages after : JournalSeen) (x : Entry) (k : ℕ) → after ≡ written x k pages → last_reply after.entries ≡ Some x.reply
 last-written pages after x k e =
-    ap (λ (p : Pages). last_reply p.entries) e ∙ ap (λ (o : Option Local). option_map (λ l. l.entry.reply) o) (last-one pages.entries (record { at = pages.position; entry = x }))
+    ap (λ (p : JournalSeen). last_reply p.entries) e ∙ ap (λ (o : Option Local). option_map (λ l. l.entry.reply) o)
+    (last-one pages.entries (record { at = pages.position; entry = x }))
 
 -- the reply of the journal's last entry is the machine's answer
-pub replied-last : (env new : Environment) (pages after : Pages) (a : Option SharedCall) (c : Call) (x : Entry) (k : ℕ) → after ≡ written x k pages → is_entering env c ≡ false
+pub replied-last : (env new : Environment) (pages after : JournalSeen) (a : Option SharedCall) (c : Call) (x : Entry) (k : ℕ) → after ≡ written x k pages
+    → is_entering env c ≡ false
     → is_full (room_in (core_of env pages a)) c ≡ false → Calls env c x new → OnLastReply after.entries (λ r. Replies (core_of env pages a) c r (core_of new after a))
 replied-last env new pages after a c x k e once fits calls =
     rw (last-written pages after x k e) (replied env new pages after a c x k e once fits calls)

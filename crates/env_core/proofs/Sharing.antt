@@ -18,7 +18,7 @@ use Rattle.napi_types.specs.environment.SharedCalls.{with_root, without_root, af
 use Rattle.napi_types.proofs.environment.AnswersKeep.{local-counted}
 use Rattle.napi_types.proofs.environment.HookedSteps.{unchanged}
 use Rattle.env_core.specs.Core.{IsCore}
-use Rattle.env_core.specs.Journal.{Pages}
+use Rattle.env_core.specs.Journal.{JournalSeen}
 use Rattle.env_core.specs.Sharing.{MayAwait}
 
 -- AWAITING
@@ -42,8 +42,9 @@ pub record KeepsCounted (old new : Environment) : Type 0 where
   pub values : new.heap.made ≡ old.heap.made
   pub hooked : IsHooked old → IsHooked new
 
-pub core-shared : (old new : Environment) (pages after : Pages) (n : ℕ) → IsCore old pages → KeepsCounted old new → after ≡ record pages { position = n } → IsCore new after
-core-shared old new pages after n c k e = subst (λ (p : Pages). IsCore new p) (sym e) (record {
+pub core-shared : (old new : Environment) (pages after : JournalSeen) (n : ℕ) → IsCore old pages → KeepsCounted old new
+    → after ≡ record pages { position = n } → IsCore new after
+core-shared old new pages after n c k e = subst (λ (p : JournalSeen). IsCore new p) (sym e) (record {
   reserved = c.reserved ∙ sym k.reserved;
   within = c.within;
   small = c.small;

@@ -9,7 +9,7 @@ use Rattle.napi_types.specs.environment.Changes.{Change, opening_change, gone_ch
 use Rattle.napi_types.specs.environment.Environment.{Environment, OpenedWith, new_environment}
 use Rattle.napi_types.specs.environment.Hooked.{IsHooked}
 use Rattle.napi_types.specs.environment.JournalRoom.{journal_room, reserved_journal}
-use Rattle.env_core.specs.Journal.{Pages}
+use Rattle.env_core.specs.Journal.{JournalSeen}
 
 -- the environment, its journal, the journal's limit, the length of the history as it was noted last, and the call that was handed to the hub and that the hub
 -- has not answered yet, where there is one
@@ -48,7 +48,7 @@ room_in core = journal_room core.env (length core.journal) core.limit
 
 -- the promised places are the reserved ones, each number and each ticket that was given out has an entry, no entry made more than 65,537 values, and the hooks
 -- fit the book
-pub record IsCore (e : Environment) (pages : Pages) : Type 0 where
+pub record IsCore (e : Environment) (pages : JournalSeen) : Type 0 where
   pub reserved : pages.promised ≡ reserved_journal e
   pub within : length pages.entries + pages.promised ≤ pages.limit
   pub small : pages.limit ≤ most_entries

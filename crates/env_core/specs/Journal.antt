@@ -9,14 +9,14 @@ use Rattle.napi_types.specs.declared.entry.What.TheVariants as what
 use Rattle.napi_types.specs.plain.Room.{first_places, most_entries}
 
 -- the entries, how many places are promised, the limit, and the length of the history as it was noted last
-pub record Pages : Type 0 where
+pub record JournalSeen : Type 0 where
   pub entries : List Local
   pub promised : ℕ
   pub limit : ℕ
   pub position : ℕ
 
 -- so many places more pass a bound
-abbrev pub Exceeds : Pages → ℕ → ℕ → Type 0
+abbrev pub Exceeds : JournalSeen → ℕ → ℕ → Type 0
 Exceeds p places bound = bound < length p.entries + p.promised + places
 
 -- entries and promised places stay within the limit and have their memory, and so have the first places

@@ -24,9 +24,9 @@ pub struct Journal {
 
 impl Model for Journal {
     ghost use Rattle.std.specs.Prelude.{◌≡◌, ◌+◌, ◌≤◌, length, vec_capacity, min};
-    ghost use Rattle.env_core.specs.Journal.{Pages, FitsJournal};
+    ghost use Rattle.env_core.specs.Journal.{JournalSeen, FitsJournal};
 
-    ghost Value = { Pages };
+    ghost Value = { JournalSeen };
 
     ghost view = { λ journal. record {
       entries = journal.entries.items;

@@ -3,7 +3,7 @@ use Rattle.napi_types.specs.declared.entry.Entry.{Entry}
 use Rattle.napi_types.specs.declared.entry.Reply.{Reply}
 use Rattle.napi_types.specs.plain.Replies.{plain}
 use Rattle.napi_types.specs.environment.Changes.{call_entry}
-use Rattle.env_core.specs.Journal.{Pages}
+use Rattle.env_core.specs.Journal.{JournalSeen}
 use Rattle.env_core.specs.State.{Calls}
 use Rattle.env_core.proofs.Cores.{written, written-call, calls-keep, calls-hooked, core-call_change, replied-last, other-at-once, fits-in, value-need}
 use Rattle.env_core.proofs.Sharing.{idle-may}
@@ -22,7 +22,7 @@ invariant_of-self-in-Ok c =
           (omega (arith, need))
           (c.push_plain_call.ensures
           ∙ written-call s.state c.depth-depth.result c.args.step c.args.call.now r (c.promise.new.self.promised - 1) c.promise.new.self c.depth-depth.ensures (rw (← c.self.view_is) at c.requires.ask)
-          ∙ ap (λ (p : Pages). written x (p.promised - 1) p) c.in_default.ensures.ok),
+          ∙ ap (λ (p : JournalSeen). written x (p.promised - 1) p) c.in_default.ensures.ok),
       idle-may c.call_on_values.new.self s.root_room s.awaited (rw (← c.self.view_is) at c.requires.idle),
     )
 
@@ -36,7 +36,7 @@ returns-in-Ok-clause-reply c =
     (replied-last s.state c.call_on_values.new.self s.journal c.push_plain_call.new.self s.awaited c.args.call.now x (s.journal.promised + 1 - 1)
     (c.push_plain_call.ensures
     ∙ written-call s.state c.depth-depth.result c.args.step c.args.call.now r (c.promise.new.self.promised - 1) c.promise.new.self c.depth-depth.ensures (rw (← c.self.view_is) at c.requires.ask)
-    ∙ ap (λ (p : Pages). written x (p.promised - 1) p) c.in_default.ensures.ok)
+    ∙ ap (λ (p : JournalSeen). written x (p.promised - 1) p) c.in_default.ensures.ok)
     (other-at-once s.state c.args.call.now c.requires.at_once)
     (fits-in s.state s.journal s.awaited c.args.call.now 1 c.self.invariant.0 (value-need c.args.call.now c.requires.value_call) c.in_default.ensures.room)
     calls)

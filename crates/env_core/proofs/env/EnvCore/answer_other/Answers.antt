@@ -1,7 +1,7 @@
 use Rattle.std.proofs.Common.{◌∙◌, ◌+◌, ◌-◌, ℕ, ap, arith, sym}
 use Rattle.napi_types.specs.declared.entry.Entry.{Entry}
 use Rattle.napi_types.specs.environment.Changes.{call_entry}
-use Rattle.env_core.specs.Journal.{Pages}
+use Rattle.env_core.specs.Journal.{JournalSeen}
 use Rattle.env_core.specs.State.{Calls}
 use Rattle.env_core.proofs.Cores.{KeepsPlaces, written, written-call, calls-keep, calls-hooked, places-kept, core-call_change, replied-last, other-at-once, fits-in}
 use Rattle.env_core.proofs.Sharing.{idle-may}
@@ -22,7 +22,7 @@ push_call-requires c =
     let x : Entry = call_entry s.state c.args.call.now c.in-Ok.reply in
     let calls : Calls s.state c.args.call.now x c.call.new.self = rw c.in-Ok.is at c.call.ensures.ok in
     let k : KeepsPlaces s.journal.promised c.args.call.now x.reply = places-kept s.state c.call.new.self s.journal c.args.call.now x.reply c.self.invariant.0 (calls-keep s.state c.call.new.self c.args.call.now x calls) in
-    omega (arith, k.made, c.requires.facts.places, ap (λ (p : Pages). p.promised) c.in_default.ensures.ok)
+    omega (arith, k.made, c.requires.facts.places, ap (λ (p : JournalSeen). p.promised) c.in_default.ensures.ok)
 
 pub overflow_sub-places : goal.overflow_sub-places
 overflow_sub-places c = let k = kept c in omega (arith, c.requires.facts.places, k.made)
@@ -40,8 +40,8 @@ give_back-requires c =
       c.frame_places-freed.ensures,
       k.made,
       k.dropped,
-      ap (λ (p : Pages). p.promised) c.push_call.ensures,
-      ap (λ (p : Pages). p.promised) c.in_default.ensures.ok,
+      ap (λ (p : JournalSeen). p.promised) c.push_call.ensures,
+      ap (λ (p : JournalSeen). p.promised) c.in_default.ensures.ok,
     )
 
 pub invariant_of-self-in-Ok : goal.invariant_of-self-in-Ok
@@ -55,9 +55,9 @@ invariant_of-self-in-Ok c =
           (calls-keep s.state c.call.new.self c.args.call.now x calls) (calls-hooked s.state c.call.new.self c.args.call.now x calls c.self.invariant.0.hooked)
           (omega (arith, c.requires.facts.places, c.in_default.ensures.room))
           (omega (arith, c.requires.facts.places, c.frame_places-kept.ensures, c.frame_places-freed.ensures, k.made, k.dropped))
-          (c.give_back.ensures ∙ ap (λ (p : Pages). record p { promised = p.promised - left }) c.push_call.ensures
+          (c.give_back.ensures ∙ ap (λ (p : JournalSeen). record p { promised = p.promised - left }) c.push_call.ensures
           ∙ written-call s.state c.depth-depth.result c.args.step c.args.call.now c.in-Ok.reply (c.promise.new.self.promised - 1 - left) c.promise.new.self c.depth-depth.ensures (rw (← c.self.view_is) at c.requires.ask)
-          ∙ ap (λ (p : Pages). written x (p.promised - 1 - left) p) c.in_default.ensures.ok),
+          ∙ ap (λ (p : JournalSeen). written x (p.promised - 1 - left) p) c.in_default.ensures.ok),
       idle-may c.call.new.self s.root_room s.awaited (rw (← c.self.view_is) at c.requires.idle),
     )
 
@@ -69,9 +69,9 @@ returns-in-Ok-clause-reply c =
     let left : ℕ = c.args.facts.places - 1 - c.frame_places-kept.result + c.frame_places-freed.result in
     rw (← c.self.view_is)
     (replied-last s.state c.call.new.self s.journal c.give_back.new.self s.awaited c.args.call.now x (s.journal.promised + c.args.facts.places - 1 - left)
-    (c.give_back.ensures ∙ ap (λ (p : Pages). record p { promised = p.promised - left }) c.push_call.ensures
+    (c.give_back.ensures ∙ ap (λ (p : JournalSeen). record p { promised = p.promised - left }) c.push_call.ensures
     ∙ written-call s.state c.depth-depth.result c.args.step c.args.call.now c.in-Ok.reply (c.promise.new.self.promised - 1 - left) c.promise.new.self c.depth-depth.ensures (rw (← c.self.view_is) at c.requires.ask)
-    ∙ ap (λ (p : Pages). written x (p.promised - 1 - left) p) c.in_default.ensures.ok)
+    ∙ ap (λ (p : JournalSeen). written x (p.promised - 1 - left) p) c.in_default.ensures.ok)
     (other-at-once s.state c.args.call.now c.requires.at_once)
     (fits-in s.state s.journal s.awaited c.args.call.now c.args.facts.places c.self.invariant.0 (sym c.requires.facts.places) c.in_default.ensures.room)
     calls)

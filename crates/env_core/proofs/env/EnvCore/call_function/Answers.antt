@@ -3,7 +3,7 @@ use Rattle.napi_types.specs.declared.call.Call.{Call}
 use Rattle.napi_types.specs.declared.call.Call.TheVariants as call_of
 use Rattle.napi_types.specs.declared.entry.Entry.{Entry}
 use Rattle.napi_types.specs.environment.Changes.{call_entry}
-use Rattle.env_core.specs.Journal.{Pages}
+use Rattle.env_core.specs.Journal.{JournalSeen}
 use Rattle.env_core.specs.State.{RefusesCall}
 use Rattle.env_core.proofs.Cores.{written, written-call, calls-keep, calls-hooked, called-places, core-call_change}
 use Rattle.env_core.proofs.Sharing.{idle-may}
@@ -19,8 +19,8 @@ invariant_of-self-in-Ok-Refused c =
       core-call_change s.state c.call_function.new.self s.journal c.give_back.new.self made x (s.journal.promised + 2 - 1 - 1) c.self.invariant.0
           (calls-keep s.state c.call_function.new.self made x ok.calls) (calls-hooked s.state c.call_function.new.self made x ok.calls c.self.invariant.0.hooked)
           c.in_default.ensures.room (called-places s.state c.args.receiver c.args.function c.args.args.now x c.call_function.new.self s.journal.promised ok.calls)
-          (c.give_back.ensures ∙ ap (λ (p : Pages). record p { promised = p.promised - 1 }) c.push_call.ensures
+          (c.give_back.ensures ∙ ap (λ (p : JournalSeen). record p { promised = p.promised - 1 }) c.push_call.ensures
           ∙ written-call s.state c.depth-depth.result c.args.step made r (c.promise.new.self.promised - 1 - 1) c.promise.new.self c.depth-depth.ensures (rw (← c.self.view_is) at c.requires.ask)
-          ∙ ap (λ (p : Pages). written x (p.promised - 1 - 1) p) c.in_default.ensures.ok),
+          ∙ ap (λ (p : JournalSeen). written x (p.promised - 1 - 1) p) c.in_default.ensures.ok),
       idle-may c.call_function.new.self s.root_room s.awaited (rw (← c.self.view_is) at c.requires.idle),
     )
