@@ -3,5 +3,5 @@ mod ClosedFronts
 mod FirstMoves
 mod FunctionChanges
 mod NumberedFunctions
-mod Overviews
+mod Totals
 mod PlacedFunctions

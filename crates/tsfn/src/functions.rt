@@ -22,25 +22,25 @@ use std::marker::Model;
 pub struct Functions {
     // The function of the number n stands at n - 1.
     list: Vec<Tsfn>,
-    overview: Overview,
+    totals: Totals,
     alloc: Global,
 }
 
 impl Model for Functions {
     ghost use Rattle.std.specs.Prelude.{List};
     ghost use Rattle.napi_types.specs.parts.Functions.{FunctionState};
-    ghost use Rattle.tsfn.specs.KeptFunctions.{IsOverview};
+    ghost use Rattle.tsfn.specs.KeptFunctions.{AreTotals};
 
     ghost Value = { List FunctionState };
 
     ghost view = { λ functions. functions.list.items };
 
-    ghost invariant = { λ functions. IsOverview functions.list.items functions.overview };
+    ghost invariant = { λ functions. AreTotals functions.list.items functions.totals };
 }
 
 /// What is kept beside the functions, so that no call goes over all of them.
 #[derive(Drop)]
-struct Overview {
+struct Totals {
     // How many places of the history they owe.
     places: u64,
     // For how many of them the loop waits.
@@ -51,7 +51,7 @@ struct Overview {
 
 /// What one function adds to what is counted of all.
 #[derive(Clone, Copy)]
-struct Share {
+struct Portion {
     places: u64,
     awaited: u64,
 }
@@ -63,7 +63,7 @@ impl Functions {
     {
         Functions {
             list: Vec::new(alloc),
-            overview: Overview {
+            totals: Totals {
                 places: 0,
                 awaited: 0,
                 busy: BusyPlaces::new(alloc),
@@ -94,7 +94,7 @@ impl Functions {
         let id = TsfnId(self.list.len() as u64 + 1);
         let function = Tsfn::new(self.alloc, id, about)?;
         self.list.reserve(1)?;
-        self.overview.add(&function)?;
+        self.totals.add(&function)?;
         self.list.push_reserved(function);
         Ok(id)
     }
@@ -124,9 +124,9 @@ impl Functions {
             return Ok(Tried::Answer(Status::InvalidArg, None));
         };
         let function = &mut self.list[place];
-        let before = Share::of(function);
+        let before = Portion::of(function);
         let tried = function.call(payload, mode, who)?;
-        self.overview.note_call(place, before, function);
+        self.totals.note_call(place, before, function);
         Ok(tried)
     }
 
@@ -143,9 +143,9 @@ impl Functions {
             return Status::InvalidArg;
         };
         let function = &mut self.list[place];
-        let before = Share::of(function);
+        let before = Portion::of(function);
         let status = function.acquire();
-        self.overview.note_call(place, before, function);
+        self.totals.note_call(place, before, function);
         status
     }
 
@@ -162,9 +162,9 @@ impl Functions {
             return Status::InvalidArg;
         };
         let function = &mut self.list[place];
-        let before = Share::of(function);
+        let before = Portion::of(function);
         let status = function.release(mode);
-        self.overview.note_call(place, before, function);
+        self.totals.note_call(place, before, function);
         status
     }
 
@@ -179,9 +179,9 @@ impl Functions {
             return Status::InvalidArg;
         };
         let function = &mut self.list[place];
-        let before = Share::of(function);
+        let before = Portion::of(function);
         function.refer();
-        self.overview.note_call(place, before, function);
+        self.totals.note_call(place, before, function);
         Status::Ok
     }
 
@@ -196,9 +196,9 @@ impl Functions {
             return Status::InvalidArg;
         };
         let function = &mut self.list[place];
-        let before = Share::of(function);
+        let before = Portion::of(function);
         function.unrefer();
-        self.overview.note_call(place, before, function);
+        self.totals.note_call(place, before, function);
         Status::Ok
     }
 
@@ -234,9 +234,9 @@ impl Functions {
     {
         let place = self.first_busy()?;
         let function = &mut self.list[place];
-        let before = Share::of(function);
+        let before = Portion::of(function);
         let moved = function.take_move();
-        self.overview.note_move(place, before, function);
+        self.totals.note_move(place, before, function);
         moved
     }
 
@@ -262,14 +262,14 @@ impl Functions {
     pub fn are_done(&self) -> bool
         ensures { result ≡ list_all (λ f. not f.referenced || is_done f.state) self.now }
     {
-        self.overview.awaited == 0
+        self.totals.awaited == 0
     }
 
     /// How many places of the history they owe. Constant time.
     pub fn places(&self) -> u64
         ensures { result ≡ sum_by function_places self.now }
     {
-        self.overview.places
+        self.totals.places
     }
 
     /// Where the function with the lowest number that has something to do stands. `None` exactly where none has anything to do.
@@ -277,7 +277,7 @@ impl Functions {
         ensures lowest { IfSome result (λ place. IsLowestBusy (map is_busy self.now) place) }
         ensures none { IfNone result (NoneIsBusy (map is_busy self.now)) }
     {
-        self.overview.busy.lowest()
+        self.totals.busy.lowest()
     }
 
     /// Where the function of a number stands.
@@ -296,13 +296,13 @@ impl Functions {
         ensures { (f : FunctionState) → self.new ≡ slice_set self.old place (closed (slice_index_or self.old place f)) }
     {
         let function = &mut self.list[place];
-        let before = Share::of(function);
+        let before = Portion::of(function);
         function.begin_close();
-        self.overview.note_call(place, before, function);
+        self.totals.note_call(place, before, function);
     }
 }
 
-impl Overview {
+impl Totals {
     /// One function more, which was just created. It takes all memory that is wanted for it here.
     fn add(&mut self, function: &Tsfn) -> Result<(), NoMemory>
         requires idle { is_busy function.now ≡ false }
@@ -314,14 +314,14 @@ impl Overview {
         ensures err { OnErr result (self.new ≡ self.old) }
     {
         self.busy.push()?;
-        let share = Share::of(function);
-        self.places += share.places;
-        self.awaited += share.awaited;
+        let portion = Portion::of(function);
+        self.places += portion.places;
+        self.awaited += portion.awaited;
         Ok(())
     }
 
     /// The function at a place came to this by a call, which takes away nothing that it has to do.
-    fn note_call(&mut self, place: usize, before: Share, function: &Tsfn)
+    fn note_call(&mut self, place: usize, before: Portion, function: &Tsfn)
         requires within { place < length self.old.busy }
         requires counted { MayRecount self.old before function.now }
         requires busy { is_busy_at self.old.busy place ≡ true → is_busy function.now ≡ true }
@@ -335,7 +335,7 @@ impl Overview {
     }
 
     /// The first function that had something to do, which stands at this place, came to this as it did it.
-    fn note_move(&mut self, place: usize, before: Share, function: &Tsfn)
+    fn note_move(&mut self, place: usize, before: Portion, function: &Tsfn)
         requires lowest { IsLowestBusy self.old.busy place }
         requires counted { MayRecount self.old before function.now }
         ensures counted { IsRecounted self.old before function.now self.new }
@@ -348,24 +348,24 @@ impl Overview {
     }
 
     /// A function that came to this before is counted as what it is now.
-    fn recount(&mut self, before: Share, function: &Tsfn)
+    fn recount(&mut self, before: Portion, function: &Tsfn)
         requires { MayRecount self.old before function.now }
         ensures counted { IsRecounted self.old before function.now self.new }
         ensures busy { self.new.busy ≡ self.old.busy }
     {
-        let after = Share::of(function);
+        let after = Portion::of(function);
         self.places = self.places - before.places + after.places;
         self.awaited = self.awaited - before.awaited + after.awaited;
     }
 }
 
-impl Share {
+impl Portion {
     /// What a function adds.
-    fn of(function: &Tsfn) -> Share
+    fn of(function: &Tsfn) -> Portion
         ensures places { result.places ≡ function_places function.now }
         ensures awaited { result.awaited ≡ cond (holds_loop function.now) 1 0 }
     {
-        Share {
+        Portion {
             places: function.places(),
             awaited: function.holds_loop() as u64,
         }

@@ -2,12 +2,12 @@ use Rattle.std.proofs.Common.{◌<◌, ◌^◌, set, sum_by, arith}
 use Rattle.napi_types.specs.parts.Functions.{acquire_status, acquired}
 use Rattle.napi_types.specs.hub.HistoryRoom.{function_places}
 use Rattle.tsfn.proofs.FunctionChanges.{IsChange, acquired-change}
-use Rattle.tsfn.proofs.Overviews.{Stands, may-recount, kept-changed, still-few}
+use Rattle.tsfn.proofs.Totals.{Stands, may-recount, kept-changed, still-few}
 use Rattle.tsfn.proofs.PlacedFunctions.{status-at, changed-in-place}
 use Rattle.tsfn.proofs.functions.Functions.acquire.Goals as goal
 use Rattle.tsfn.proofs.functions.Functions.acquire.Goals.{After-acquire-status}
 
-stands : (c : After-acquire-status) → Stands c.self.inside.list.items c.self.inside.overview c.in-Some.place c.index_mut-function.result.now c.of-before.result
+stands : (c : After-acquire-status) → Stands c.self.inside.list.items c.self.inside.totals c.in-Some.place c.index_mut-function.result.now c.of-before.result
 stands c = record {
   kept = c.self.invariant;
   within = rw (← c.self.view_is) at c.in-Some.ensures.there.0;

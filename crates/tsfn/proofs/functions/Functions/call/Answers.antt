@@ -5,12 +5,12 @@ use Rattle.napi_types.specs.parts.Functions.{call_status, called}
 use Rattle.napi_types.specs.hub.HistoryRoom.{function_places}
 use Rattle.tsfn.specs.FunctionList.{tried_there}
 use Rattle.tsfn.proofs.FunctionChanges.{IsChange, called-change}
-use Rattle.tsfn.proofs.Overviews.{Stands, may-recount, kept-changed, still-few, stays-busy}
+use Rattle.tsfn.proofs.Totals.{Stands, may-recount, kept-changed, still-few, stays-busy}
 use Rattle.tsfn.proofs.PlacedFunctions.{there, changed-in-place}
 use Rattle.tsfn.proofs.functions.Functions.call.Goals as goal
 use Rattle.tsfn.proofs.functions.Functions.call.Goals.{In_ok-tried}
 
-stands : (c : In_ok-tried) → Stands c.self.inside.list.items c.self.inside.overview c.in-Some.place c.index_mut-function.result.now c.of-before.result
+stands : (c : In_ok-tried) → Stands c.self.inside.list.items c.self.inside.totals c.in-Some.place c.index_mut-function.result.now c.of-before.result
 stands c = record {
   kept = c.self.invariant;
   within = rw (← c.self.view_is) at c.in-Some.ensures.there.0;

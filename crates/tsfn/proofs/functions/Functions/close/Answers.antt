@@ -1,11 +1,11 @@
 use Rattle.std.proofs.Common.{◌<◌, ◌^◌, set, sum_by, arith}
 use Rattle.napi_types.specs.hub.HistoryRoom.{function_places}
 use Rattle.tsfn.proofs.FunctionChanges.{IsChange, closed-change}
-use Rattle.tsfn.proofs.Overviews.{Stands, may-recount, kept-changed, still-few}
+use Rattle.tsfn.proofs.Totals.{Stands, may-recount, kept-changed, still-few}
 use Rattle.tsfn.proofs.functions.Functions.close.Goals as goal
 use Rattle.tsfn.proofs.functions.Functions.close.Goals.{After-begin_close}
 
-stands : (c : After-begin_close) → Stands c.self.inside.list.items c.self.inside.overview c.args.place c.index_mut-function.result.now c.of-before.result
+stands : (c : After-begin_close) → Stands c.self.inside.list.items c.self.inside.totals c.args.place c.index_mut-function.result.now c.of-before.result
 stands c = record {
   kept = c.self.invariant;
   within = rw c.self.view_is c.requires;

@@ -2,7 +2,7 @@ use Rattle.std.proofs.Common.{◌≡◌, ◌∙◌, ◌<◌, ◌≤◌, ◌+◌,
 use Rattle.napi_types.specs.declared.entry.TsfnState.TheVariants.{Open}
 use Rattle.napi_types.specs.hub.HistoryRoom.{state_places, function_places}
 use Rattle.napi_types.specs.parts.Functions.{FunctionState}
-use Rattle.tsfn.proofs.Overviews.{kept-created}
+use Rattle.tsfn.proofs.Totals.{kept-created}
 use Rattle.tsfn.proofs.functions.Functions.create.Goals as goal
 
 -- what a new function owes

@@ -6,7 +6,7 @@ use Rattle.tsfn.specs.FunctionList.{functions_after_move}
 use Rattle.tsfn.specs.FunctionMoves.{is_busy}
 use Rattle.tsfn.proofs.FirstMoves.{MovesFirst, moves-first, first-none, moved-at}
 use Rattle.tsfn.proofs.FunctionChanges.{IsMoved, moved-keeps}
-use Rattle.tsfn.proofs.Overviews.{Stands, may-recount, kept-changed, still-few}
+use Rattle.tsfn.proofs.Totals.{Stands, may-recount, kept-changed, still-few}
 use Rattle.tsfn.proofs.functions.Functions.take_move.Goals as goal
 use Rattle.tsfn.proofs.functions.Functions.take_move.Goals.{After-take_move-moved}
 
@@ -15,7 +15,8 @@ first c =
     moves-first c.self.inside.list.items c.in_ok-place.place c.index_mut-function.result.now c.index_mut-function.ensures.value
     (subst (λ (fs : List FunctionState). IsLowestBusy (map is_busy fs) c.in_ok-place.place) (sym c.self.view_is) c.in_ok-place.ensures.lowest)
 
-stands : (c : After-take_move-moved) → Stands c.self.inside.list.items c.self.inside.overview c.in_ok-place.place c.index_mut-function.result.now c.of-before.result
+stands : (c : After-take_move-moved)
+    → Stands c.self.inside.list.items c.self.inside.totals c.in_ok-place.place c.index_mut-function.result.now c.of-before.result
 stands c = record {
   kept = c.self.invariant;
   within = (first c).within;

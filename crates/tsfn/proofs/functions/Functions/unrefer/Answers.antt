@@ -3,12 +3,12 @@ use Rattle.napi_types.specs.declared.status.Status.TheVariants as status
 use Rattle.napi_types.specs.parts.Functions.{with_referenced}
 use Rattle.napi_types.specs.hub.HistoryRoom.{function_places}
 use Rattle.tsfn.proofs.FunctionChanges.{IsChange, referenced-change}
-use Rattle.tsfn.proofs.Overviews.{Stands, may-recount, kept-changed, still-few}
+use Rattle.tsfn.proofs.Totals.{Stands, may-recount, kept-changed, still-few}
 use Rattle.tsfn.proofs.PlacedFunctions.{status-at, changed-in-place}
 use Rattle.tsfn.proofs.functions.Functions.unrefer.Goals as goal
 use Rattle.tsfn.proofs.functions.Functions.unrefer.Goals.{After-unrefer}
 
-stands : (c : After-unrefer) → Stands c.self.inside.list.items c.self.inside.overview c.in-Some.place c.index_mut-function.result.now c.of-before.result
+stands : (c : After-unrefer) → Stands c.self.inside.list.items c.self.inside.totals c.in-Some.place c.index_mut-function.result.now c.of-before.result
 stands c = record {
   kept = c.self.invariant;
   within = rw (← c.self.view_is) at c.in-Some.ensures.there.0;

@@ -6,9 +6,9 @@ use Rattle.napi_types.specs.parts.Functions.{FunctionState}
 use Rattle.napi_types.specs.hub.HistoryRoom.{function_places}
 use Rattle.tsfn.specs.BusyPlaces.{is_busy_at}
 use Rattle.tsfn.specs.FunctionMoves.{is_busy}
-use Rattle.tsfn.specs.KeptFunctions.{holds_loop, IsOverview, MayRecount, IsRecounted}
-use Rattle.tsfn.specs.declared.functions.Overview.{Overview}
-use Rattle.tsfn.specs.declared.functions.Share.{Share}
+use Rattle.tsfn.specs.KeptFunctions.{holds_loop, AreTotals, MayRecount, IsRecounted}
+use Rattle.tsfn.specs.declared.functions.Totals.{Totals}
+use Rattle.tsfn.specs.declared.functions.Portion.{Portion}
 use Rattle.tsfn.proofs.NumberedFunctions.{id-at, numbered-set, numbered-more}
 
 -- one where the loop waits for the function
@@ -16,15 +16,15 @@ abbrev pub awaits : FunctionState → ℕ
 awaits f = cond (holds_loop f) 1 0
 
 -- a function stands at a place, and this is what it adds
-pub record Stands (fs : List FunctionState) (o : Overview) (i : ℕ) (f : FunctionState) (s : Share) : Type 0 where
-  pub kept : IsOverview fs o
+pub record Stands (fs : List FunctionState) (o : Totals) (i : ℕ) (f : FunctionState) (s : Portion) : Type 0 where
+  pub kept : AreTotals fs o
   pub within : i < length fs
   pub here : f ≡ get_or fs i f
   pub places : s.places ≡ function_places f
   pub awaited : s.awaited ≡ awaits f
 
 -- ONE OF THEM CHANGES
-module _ {fs : List FunctionState} {o : Overview} {i : ℕ} {f : FunctionState} {s : Share} (stands : Stands fs o i f s) where
+module _ {fs : List FunctionState} {o : Totals} {i : ℕ} {f : FunctionState} {s : Portion} (stands : Stands fs o i f s) where
   changed-sum : (adds : FunctionState → ℕ) (g : FunctionState) → sum_by adds (set fs i g) + adds f ≡ sum_by adds fs + adds g
   changed-sum adds g =
       let sum : sum_by adds (set fs i g) + adds (get_or fs i f) ≡ sum_by adds fs + adds g = sum_by-set adds fs i g f stands.within in
@@ -65,7 +65,8 @@ module _ {fs : List FunctionState} {o : Overview} {i : ℕ} {f : FunctionState} 
   pub stays-busy : (g : FunctionState) → (is_busy f ≡ true → is_busy g ≡ true) → is_busy_at o.busy i ≡ true → is_busy g ≡ true
   stays-busy g keeps is = keeps (sym busy-here ∙ is)
 
-  pub kept-changed : (g : FunctionState) (new : Overview) → g.id ≡ f.id → sum_by function_places (set fs i g) < 2 ^ 63 → IsRecounted o s g new → new.busy ≡ set o.busy i (is_busy g) → IsOverview (set fs i g) new
+  pub kept-changed : (g : FunctionState) (new : Totals) → g.id ≡ f.id → sum_by function_places (set fs i g) < 2 ^ 63 → IsRecounted o s g new
+      → new.busy ≡ set o.busy i (is_busy g) → AreTotals (set fs i g) new
   kept-changed g new id few counted busy = record {
     few = few;
     numbered = numbered-set 1 i g fs stands.kept.numbered (id ∙ ap (λ (h : FunctionState). h.id) stands.here ∙ id-at 1 i fs f stands.kept.numbered stands.within);
@@ -78,8 +79,9 @@ module _ {fs : List FunctionState} {o : Overview} {i : ℕ} {f : FunctionState} 
       awaited = omega (arith, counted.awaited, stands.awaited, all-awaited, changed-sum awaits g)
 
 -- ONE IS CREATED
-pub kept-created : (fs : List FunctionState) (o new : Overview) (g : FunctionState) → IsOverview fs o → g.id ≡ length fs + 1 → sum_by function_places fs + function_places g < 2 ^ 63 → new.places ≡ o.places + function_places g
-    → new.awaited ≡ o.awaited + awaits g → new.busy ≡ o.busy ++ is_busy g ∷ [] → IsOverview (fs ++ g ∷ []) new
+pub kept-created : (fs : List FunctionState) (o new : Totals) (g : FunctionState) → AreTotals fs o → g.id ≡ length fs + 1
+    → sum_by function_places fs + function_places g < 2 ^ 63 → new.places ≡ o.places + function_places g
+    → new.awaited ≡ o.awaited + awaits g → new.busy ≡ o.busy ++ is_busy g ∷ [] → AreTotals (fs ++ g ∷ []) new
 kept-created fs o new g kept id few places awaited busy = record {
   few = omega (arith, few, sum_by_push function_places fs g);
   numbered = numbered-more 1 g fs kept.numbered (omega (arith, id));
