@@ -10,7 +10,7 @@ use Rattle.napi_types.specs.parts.Properties.{Property}
 use Rattle.napi_types.specs.parts.Values.{Value, children, value_at, value_changed}
 use Rattle.napi_types.proofs.parts.ChildParts.{properties-of, elements-of, link-of}
 use Rattle.value_store.specs.StoreChanges.{MakesValue, ChangesOnly, Frees, CanFree}
-use Rattle.value_store.specs.ValuePlaces.{IsGood}
+use Rattle.value_store.specs.Contents.{IsGood}
 use Rattle.value_store.proofs.LiveValues.{values, value_at-numbered, numbered-place, place-value, value-listed, graph_value, graph_value-numbered, number-value, graph-value}
 use Rattle.value_store.proofs.Lookup.{apart-number, other-number}
 use Rattle.value_store.proofs.NamedPlaces.{to_options}

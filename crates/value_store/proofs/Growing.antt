@@ -9,10 +9,10 @@ use Rattle.napi_types.specs.parts.Graph.{StoreState, IsLive, value_of, number_in
 use Rattle.napi_types.specs.parts.Values.{Value, children}
 use Rattle.generation_slab.specs.HeldPlaces.{HeldPlaces}
 use Rattle.napi_types.specs.parts.Properties.{HasDistinctNames}
-use Rattle.value_store.specs.declared.place.ValuePlace.{ValuePlace}
+use Rattle.value_store.specs.declared.contents.Contents.{Contents}
 use Rattle.value_store.specs.declared.record.ValueRecord.{ValueRecord}
 use Rattle.value_store.specs.StoreChanges.{MakesValue, IsFresh}
-use Rattle.value_store.specs.ValuePlaces.{value_here, state_of, AddsRecord, IsGood, Grows, GrowsTo}
+use Rattle.value_store.specs.Contents.{value_here, state_of, AddsRecord, IsGood, Grows, GrowsTo}
 use Rattle.value_store.proofs.Callers.{makes-live}
 use Rattle.value_store.proofs.Graphs.{made-graph, counted-more, number-of-same}
 use Rattle.value_store.proofs.LiveValues.{number-value}
@@ -102,7 +102,8 @@ module _ (s t u : StoreState) (vs : List Value) (ids : List ℕ) (id : ℕ) (v :
       fresh false apart = ap (λ b. b || has_number id s.issued) (or_parts (0 == id) (has_number id t.issued) step.fresh).0 ∙ apart
 
 -- A RECORD IS HELD, AND SO A VALUE MADE
-module _ (now next : HeldPlaces ValueRecord) (m n id : ℕ) (p : ValuePlace) (v : Value) (has : value_here n p ≡ v) (adds : AddsRecord now next id (record { number = n; value = p })) (is : n ≡ m + 1)
+module _ (now next : HeldPlaces ValueRecord) (m n id : ℕ) (p : Contents) (v : Value) (has : value_here n p ≡ v)
+    (adds : AddsRecord now next id (record { number = n; value = p })) (is : n ≡ m + 1)
     (s : StoreState) (vs : List Value) (ids : List ℕ) (grows : Grows s (state_of now m) vs ids) (names : HasDistinctNames v.properties) (closed : All (IsLive (state_of now m)) (children v)) where
   put-step : MakesValue (state_of now m) (state_of next n) id v
   put-step = subst (λ k. MakesValue (state_of now m) (state_of next k) id v) (sym is) (subst (λ w. MakesValue (state_of now m) (state_of next (m + 1)) id w) has (adds-makes now next m id (record { number = n; value = p }) adds))

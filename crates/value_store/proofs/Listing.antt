@@ -8,10 +8,10 @@ use Rattle.napi_types.specs.declared.body.Body.{Body}
 use Rattle.napi_types.specs.parts.Graph.{IsLive, number_in}
 use Rattle.napi_types.specs.parts.NewValues.{made_after, array_of, list_of}
 use Rattle.napi_types.specs.parts.Values.{children, fresh_value, with_element}
-use Rattle.value_store.specs.declared.place.ValuePlace.{ValuePlace}
-use Rattle.value_store.specs.declared.place.ValuePlace.TheVariants.{Plain}
+use Rattle.value_store.specs.declared.contents.Contents.{Contents}
+use Rattle.value_store.specs.declared.contents.Contents.TheVariants.{Plain}
 use Rattle.value_store.specs.declared.record.ValueRecord.{ValueRecord}
-use Rattle.value_store.specs.ValuePlaces.{value_here, state_of, HasValue, ChangesPlace, AddsRecord, IsGood, Grows, GrowsTo, ListsSoFar}
+use Rattle.value_store.specs.Contents.{value_here, state_of, HasValue, ChangesPlace, AddsRecord, IsGood, Grows, GrowsTo, ListsSoFar}
 use Rattle.value_store.proofs.Growing.{grows-none, put-one, put-last}
 use Rattle.value_store.proofs.PropertyNames.{distinct-none}
 use Rattle.value_store.proofs.RenamedParts.{array-named, array-more}
@@ -42,11 +42,12 @@ array-children n numbers = append-nil (filter_map (λ (e : Option ℕ). e) (map 
 
 module _ (old : HeldPlaces ValueRecord) (made : ℕ) (bodies : List Body) where
   -- so many were made as are set
-  pub so-many : (now : HeldPlaces ValueRecord) (array : ValuePlace) (at : ℕ) (so_far : ListsSoFar old now made bodies array at) → at ≤ length bodies → at ≡ length so_far.ids
+  pub so-many : (now : HeldPlaces ValueRecord) (array : Contents) (at : ℕ) (so_far : ListsSoFar old now made bodies array at) → at ≤ length bodies
+      → at ≡ length so_far.ids
   so-many now array at so_far within =
       sym (so_far.grows.many ∙ length-made_after made (take at bodies) ∙ length-take-le at bodies within)
 
-  pub list-start : (now : HeldPlaces ValueRecord) (array : ValuePlace) → IsGood (state_of old made) → EachHeldOnce old → now ≡ record old { room = now.room }
+  pub list-start : (now : HeldPlaces ValueRecord) (array : Contents) → IsGood (state_of old made) → EachHeldOnce old → now ≡ record old { room = now.room }
       → HasValue array (λ n. array_of n (range_with_len 0 (length bodies))) → length bodies + 1 ≤ now.room → ListsSoFar old now made bodies array 0
   list-start now array good once kept elements room = record {
     ids = [];
@@ -62,7 +63,8 @@ module _ (old : HeldPlaces ValueRecord) (made : ℕ) (bodies : List Body) where
       less-none : (n : ℕ) → n ≡ n - 0
       less-none n = omega arith
 
-  pub list-turn : (now next : HeldPlaces ValueRecord) (array after : ValuePlace) (at number id : ℕ) (d : Body) → ListsSoFar old now made bodies array at → at < length bodies
+  pub list-turn : (now next : HeldPlaces ValueRecord) (array after : Contents) (at number id : ℕ) (d : Body) → ListsSoFar old now made bodies array at
+      → at < length bodies
       → number ≡ made + at + 1 → AddsRecord now next id (record { number = number; value = Plain (get_or bodies at d) }) → next.room + 1 ≡ now.room → ChangesPlace array after (with_element at id)
       → ListsSoFar old next made bodies after (at + 1)
   list-turn now next array after at number id d so_far less is adds room changes =
@@ -84,7 +86,8 @@ module _ (old : HeldPlaces ValueRecord) (made : ℕ) (bodies : List Body) where
       moved : (n m k : ℕ) → n ≡ m + k + 1 → n ≡ m + (k + 1)
       moved n m k is = omega (arith, is)
 
-  pub list-end : (now new : HeldPlaces ValueRecord) (array : ValuePlace) (at number id : ℕ) → at ≡ length bodies → ListsSoFar old now made bodies array at → number ≡ made + length bodies + 1
+  pub list-end : (now new : HeldPlaces ValueRecord) (array : Contents) (at number id : ℕ) → at ≡ length bodies → ListsSoFar old now made bodies array at
+      → number ≡ made + length bodies + 1
       → AddsRecord now new id (record { number = number; value = array }) → GrowsTo (state_of old made) (state_of new (made + (length bodies + 1))) (list_of made bodies) id
   list-end now new array at number id all so_far is adds =
       subst (λ k. GrowsTo (state_of old made) (state_of new k) (list_of made bodies) id) (moved number made (length bodies) is)

@@ -8,11 +8,11 @@ use Rattle.napi_types.specs.plain.Lists.{found, has_number}
 use Rattle.napi_types.specs.parts.Graph.{Stored, live, value_of}
 use Rattle.napi_types.specs.parts.Values.{Value}
 use Rattle.napi_types.proofs.plain.Found.{found-as_map, found-with_record, found-filter, found-number, has-with_number, turned, same-tells}
-use Rattle.value_store.specs.declared.place.ValuePlace.{ValuePlace}
-use Rattle.value_store.specs.declared.place.ValuePlace.TheVariants.{Plain, One, Full}
+use Rattle.value_store.specs.declared.contents.Contents.{Contents}
+use Rattle.value_store.specs.declared.contents.Contents.TheVariants.{Plain, One, Full}
 use Rattle.value_store.specs.declared.record.ValueRecord.{ValueRecord}
 use Rattle.value_store.specs.StoreChanges.{id_at, EachStandsOnce, MakesValue}
-use Rattle.value_store.specs.ValuePlaces.{value_here, properties_here, elements_here, value_of_record, stored_as, state_of, AddsRecord}
+use Rattle.value_store.specs.Contents.{value_here, properties_here, elements_here, value_of_record, stored_as, state_of, AddsRecord}
 use Rattle.value_store.proofs.Lookup.{apart-number}
 
 abbrev number_held : HeldValue ValueRecord → ℕ
@@ -209,17 +209,17 @@ many-live s made = many s.places
 
 -- WHAT A RECORD'S VALUE HAS
 -- a value has the creation number that it is made with
-pub number-here : (n : ℕ) (p : ValuePlace) → let v : Value = value_here n p in v.number ≡ n
+pub number-here : (n : ℕ) (p : Contents) → let v : Value = value_here n p in v.number ≡ n
 number-here n (Plain b) = refl
 number-here n (One name to b) = refl
 number-here n (Full b parts) = refl
 
-pub properties-here : (n : ℕ) (p : ValuePlace) → let v : Value = value_here n p in v.properties ≡ properties_here p
+pub properties-here : (n : ℕ) (p : Contents) → let v : Value = value_here n p in v.properties ≡ properties_here p
 properties-here n (Plain b) = refl
 properties-here n (One name to b) = refl
 properties-here n (Full b parts) = refl
 
-pub elements-here : (n : ℕ) (p : ValuePlace) → let v : Value = value_here n p in v.elements ≡ elements_here p
+pub elements-here : (n : ℕ) (p : Contents) → let v : Value = value_here n p in v.elements ≡ elements_here p
 elements-here n (Plain b) = refl
 elements-here n (One name to b) = refl
 elements-here n (Full b parts) = refl

@@ -10,10 +10,10 @@ use Rattle.napi_types.specs.declared.ids.ValueId.{ValueId}
 use Rattle.napi_types.specs.plain.Lists.{has_number, tail}
 use Rattle.napi_types.specs.parts.Graph.{StoreState, IsLive, value_of, number_in, renamed, graph_of}
 use Rattle.napi_types.specs.parts.Values.{Value, fresh_value, value_at, starting_values}
-use Rattle.value_store.specs.declared.place.ValuePlace.TheVariants.{Plain}
+use Rattle.value_store.specs.declared.contents.Contents.TheVariants.{Plain}
 use Rattle.value_store.specs.declared.record.ValueRecord.{ValueRecord}
 use Rattle.value_store.specs.StoreChanges.{id_at, IsStarting}
-use Rattle.value_store.specs.ValuePlaces.{state_of, AddsRecord, IsGood, Grows, IsKeptStore}
+use Rattle.value_store.specs.Contents.{state_of, AddsRecord, IsGood, Grows, IsKeptStore}
 use Rattle.value_store.proofs.Graphs.{graph-read}
 use Rattle.value_store.proofs.Growing.{grows-none, put-one}
 use Rattle.value_store.proofs.PropertyNames.{distinct-none}

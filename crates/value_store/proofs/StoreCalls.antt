@@ -12,10 +12,10 @@ use Rattle.napi_types.specs.plain.Lists.{has_number}
 use Rattle.napi_types.specs.parts.Graph.{Stored, StoreState, IsLive, value_of, number_in, renamed, graph_of}
 use Rattle.napi_types.specs.parts.Properties.{HasDistinctNames}
 use Rattle.napi_types.specs.parts.Values.{Value, children, value_changed, with_property, without_property, with_element}
-use Rattle.value_store.specs.declared.place.ValuePlace.{ValuePlace}
+use Rattle.value_store.specs.declared.contents.Contents.{Contents}
 use Rattle.value_store.specs.declared.record.ValueRecord.{ValueRecord}
 use Rattle.value_store.specs.StoreChanges.{MakesValue, MakesList, ChangesOnly, Frees, CanFree, StandsAt, id_at, properties_in}
-use Rattle.value_store.specs.ValuePlaces.{value_of_record, properties_here, state_of, HasValue, ChangesPlace, AddsRecord, IsGood, GrowsTo, NameStarting, IsKeptStore}
+use Rattle.value_store.specs.Contents.{value_of_record, properties_here, state_of, HasValue, ChangesPlace, AddsRecord, IsGood, GrowsTo, NameStarting, IsKeptStore}
 use Rattle.value_store.proofs.Graphs.{made-graph, changed-graph, freed-graph}
 use Rattle.value_store.proofs.Lookup.{apart-number}
 use Rattle.value_store.proofs.NamedPlaces.{children-with_property, children-without_property, children-with_element}
@@ -30,7 +30,8 @@ module _ (s : HeldPlaces ValueRecord) (made : ℕ) (starting : List ValueId) (ke
   good-view = subst IsGood view kept.good
 
   -- A VALUE IS MADE
-  module _ (new : HeldPlaces ValueRecord) (id : ℕ) (p : ValuePlace) (value : ℕ → Value) (has : HasValue p value) (adds : AddsRecord s new id (record { number = made + 1; value = p }))
+  module _ (new : HeldPlaces ValueRecord) (id : ℕ) (p : Contents) (value : ℕ → Value) (has : HasValue p value)
+      (adds : AddsRecord s new id (record { number = made + 1; value = p }))
       (names : (n : ℕ) → let v : Value = value n in HasDistinctNames v.properties) (closed : (n : ℕ) → All (IsLive t) (children (value n))) where
     step : MakesValue (state_of s made) (state_of new (made + 1)) id (value (made + 1))
     step = subst (λ v. MakesValue (state_of s made) (state_of new (made + 1)) id v) (has (made + 1)) (adds-makes s new made id (record { number = made + 1; value = p }) adds)
@@ -84,7 +85,7 @@ module _ (s : HeldPlaces ValueRecord) (made : ℕ) (starting : List ValueId) (ke
     list-graph = grows.graph ∙ ap (λ u. graph_of u ++ vs) view
 
   -- A VALUE IS CHANGED
-  module _ (k : ℕ) (r : ValueRecord) (held : record_at s k ≡ Some r) (p : ValuePlace) where
+  module _ (k : ℕ) (r : ValueRecord) (held : record_at s k ≡ Some r) (p : Contents) where
     abbrev next : ValueRecord
     next = record r { value = p }
 

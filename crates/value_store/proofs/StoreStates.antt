@@ -10,7 +10,7 @@ use Rattle.napi_types.specs.parts.Properties.{HasDistinctNames}
 use Rattle.napi_types.specs.parts.Values.{Value, children}
 use Rattle.napi_types.proofs.plain.Maps.{among-holds}
 use Rattle.value_store.specs.StoreChanges.{EachStandsOnce, MakesValue, ChangesOnly, Frees, CanFree, IsStarting}
-use Rattle.value_store.specs.ValuePlaces.{IsGood, NameStarting}
+use Rattle.value_store.specs.Contents.{IsGood, NameStarting}
 use Rattle.value_store.proofs.Callers.{makes-live, changes-live}
 use Rattle.value_store.proofs.Lookup.{other-number}
 use Rattle.value_store.proofs.ReadingPlaces.{some-is}

@@ -8,10 +8,10 @@ use Rattle.napi_types.specs.plain.Texts.{message_text, code_text}
 use Rattle.napi_types.specs.parts.Graph.{IsLive, number_in}
 use Rattle.napi_types.specs.parts.NewValues.{error_of, thrown_of}
 use Rattle.napi_types.specs.parts.Values.{fresh_value, with_property}
-use Rattle.value_store.specs.declared.place.ValuePlace.{ValuePlace}
-use Rattle.value_store.specs.declared.place.ValuePlace.TheVariants.{Plain}
+use Rattle.value_store.specs.declared.contents.Contents.{Contents}
+use Rattle.value_store.specs.declared.contents.Contents.TheVariants.{Plain}
 use Rattle.value_store.specs.declared.record.ValueRecord.{ValueRecord}
-use Rattle.value_store.specs.ValuePlaces.{state_of, HasValue, ChangesPlace, AddsRecord, IsGood, Grows, GrowsTo}
+use Rattle.value_store.specs.Contents.{state_of, HasValue, ChangesPlace, AddsRecord, IsGood, Grows, GrowsTo}
 use Rattle.value_store.proofs.Errors.{error-names}
 use Rattle.value_store.proofs.Growing.{grows-none, put-one, put-last}
 use Rattle.value_store.proofs.PropertyNames.{distinct-none}
@@ -32,7 +32,8 @@ module _ (old start : HeldPlaces ValueRecord) (made : ℕ) (message : TextNo) (g
       put-one start next made (made + 1) said (Plain (body.Str message)) (fresh_value (made + 1) (body.Str message)) refl adds refl (state_of old made) [] [] started distinct-none (All-nil (IsLive (state_of start made)))
       (fresh_value (made + 1) (body.Str message)) refl
 
-  pub thrown-plain : (mid new : HeldPlaces ValueRecord) (said id : ℕ) (none error : ValuePlace) → AddsRecord start mid said (record { number = made + 1; value = Plain (body.Str message) })
+  pub thrown-plain : (mid new : HeldPlaces ValueRecord) (said id : ℕ) (none error : Contents) → AddsRecord start mid said
+      (record { number = made + 1; value = Plain (body.Str message) })
       → HasValue none (λ n. error_of n None 0) → ChangesPlace none error (with_property message_text said) → AddsRecord mid new id (record { number = made + 2; value = error })
       → GrowsTo (state_of old made) (state_of new (made + 2)) (thrown_of made None message) id
   thrown-plain mid new said id none error first has changes last =
@@ -61,7 +62,8 @@ module _ (old start : HeldPlaces ValueRecord) (made : ℕ) (message : TextNo) (g
         one_more : (n : ℕ) → n + 2 ≡ n + 1 + 1
         one_more n = omega arith
 
-    pub thrown-coded : (mid next new : HeldPlaces ValueRecord) (said coded id : ℕ) (none half error : ValuePlace) → AddsRecord start mid said (record { number = made + 1; value = Plain (body.Str message) })
+    pub thrown-coded : (mid next new : HeldPlaces ValueRecord) (said coded id : ℕ) (none half error : Contents) → AddsRecord start mid said
+        (record { number = made + 1; value = Plain (body.Str message) })
         → HasValue none (λ n. error_of n (Some 0) 0) → ChangesPlace none half (with_property message_text said) → AddsRecord mid next coded (record { number = made + 2; value = Plain (body.Str code) })
         → ChangesPlace half error (with_property code_text coded) → AddsRecord next new id (record { number = made + 3; value = error })
         → GrowsTo (state_of old made) (state_of new (made + 3)) (thrown_of made (Some code) message) id

@@ -1,6 +1,6 @@
+pub mod Contents
 pub mod Listings
 pub mod OrderedMaps
 pub mod PropertyMaps
 pub mod StoreChanges
-pub mod ValuePlaces
 pub mod Walks

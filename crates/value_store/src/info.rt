@@ -3,9 +3,9 @@ ghost use Rattle.std.specs.Prelude.{◌≡◌, length, option_map};
 ghost use Rattle.napi_types.specs.plain.Lists.{HaveSameNumbers};
 ghost use Rattle.napi_types.specs.parts.Properties.{property_at, element_at};
 ghost use Rattle.napi_types.specs.parts.Values.{children};
-ghost use Rattle.value_store.specs.ValuePlaces.{value_of_record};
+ghost use Rattle.value_store.specs.Contents.{value_of_record};
 
-use crate::place::ValuePlace;
+use crate::contents::Contents;
 use crate::record::ValueRecord;
 use crate::walk::EntriesLeft;
 use crate::{Children, PropertyWalk};
@@ -25,7 +25,7 @@ const _: () = prove!(size_of::<ValueInfo>() == 8);
 
 impl<'a> Model for ValueInfo<'a> {
     ghost use Rattle.napi_types.specs.parts.Values.{Value as GraphValue};
-    ghost use Rattle.value_store.specs.ValuePlaces.{value_of_record};
+    ghost use Rattle.value_store.specs.Contents.{value_of_record};
 
     ghost Value = { GraphValue };
 
@@ -45,9 +45,7 @@ impl<'a> ValueInfo<'a> {
         ensures { result ≡ self.now.body }
     {
         match &self.record.value {
-            ValuePlace::Plain(body) | ValuePlace::One(_, _, body) | ValuePlace::Full(body, _) => {
-                *body
-            }
+            Contents::Plain(body) | Contents::One(_, _, body) | Contents::Full(body, _) => { *body }
         }
     }
 
@@ -64,9 +62,9 @@ impl<'a> ValueInfo<'a> {
         ensures { option_map (λ v. v.0) result ≡ property_at name.0 self.now.properties }
     {
         match &self.record.value {
-            ValuePlace::Plain(_) => None,
-            ValuePlace::One(own, to, _) => (own.0 == name.0).then_some(*to),
-            ValuePlace::Full(_, parts) => parts.get_prop(name),
+            Contents::Plain(_) => None,
+            Contents::One(own, to, _) => (own.0 == name.0).then_some(*to),
+            Contents::Full(_, parts) => parts.get_prop(name),
         }
     }
 
@@ -75,9 +73,9 @@ impl<'a> ValueInfo<'a> {
         ensures { result ≡ length self.now.properties }
     {
         match &self.record.value {
-            ValuePlace::Plain(_) => 0,
-            ValuePlace::One(_, _, _) => 1,
-            ValuePlace::Full(_, parts) => parts.name_count(),
+            Contents::Plain(_) => 0,
+            Contents::One(_, _, _) => 1,
+            Contents::Full(_, parts) => parts.name_count(),
         }
     }
 
@@ -86,9 +84,9 @@ impl<'a> ValueInfo<'a> {
         ensures { result ≡ self.now.properties }
     {
         match &self.record.value {
-            ValuePlace::Plain(_) => PropertyWalk::over(EntriesLeft::Nothing),
-            ValuePlace::One(name, to, _) => PropertyWalk::over(EntriesLeft::One(*name, *to)),
-            ValuePlace::Full(_, parts) => parts.properties(),
+            Contents::Plain(_) => PropertyWalk::over(EntriesLeft::Nothing),
+            Contents::One(name, to, _) => PropertyWalk::over(EntriesLeft::One(*name, *to)),
+            Contents::Full(_, parts) => parts.properties(),
         }
     }
 
@@ -97,8 +95,8 @@ impl<'a> ValueInfo<'a> {
         ensures { option_map (λ v. v.0) result ≡ element_at at self.now.elements }
     {
         match &self.record.value {
-            ValuePlace::Plain(_) | ValuePlace::One(_, _, _) => None,
-            ValuePlace::Full(_, parts) => parts.get_element(at),
+            Contents::Plain(_) | Contents::One(_, _, _) => None,
+            Contents::Full(_, parts) => parts.get_element(at),
         }
     }
 
@@ -107,8 +105,8 @@ impl<'a> ValueInfo<'a> {
         ensures { result ≡ length self.now.elements }
     {
         match &self.record.value {
-            ValuePlace::Plain(_) | ValuePlace::One(_, _, _) => 0,
-            ValuePlace::Full(_, parts) => parts.element_count(),
+            Contents::Plain(_) | Contents::One(_, _, _) => 0,
+            Contents::Full(_, parts) => parts.element_count(),
         }
     }
 
@@ -118,9 +116,9 @@ impl<'a> ValueInfo<'a> {
         ensures many { length result ≡ length (children self.now) }
     {
         match &self.record.value {
-            ValuePlace::Plain(_) => Children::none(),
-            ValuePlace::One(_, to, _) => Children::one(*to),
-            ValuePlace::Full(_, parts) => parts.children(),
+            Contents::Plain(_) => Children::none(),
+            Contents::One(_, to, _) => Children::one(*to),
+            Contents::Full(_, parts) => parts.children(),
         }
     }
 }

@@ -5,14 +5,14 @@
 #![tactic(auto)]
 
 mod children;
+mod contents;
 mod elements;
 mod info;
 mod ordered;
 mod parts;
-mod place;
-mod places;
 mod properties;
 mod record;
+mod records;
 mod store;
 mod walk;
 

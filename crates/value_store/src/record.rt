@@ -1,16 +1,16 @@
 //! A value as the store keeps it.
 ghost use Rattle.std.specs.Prelude.{◌≡◌};
-ghost use Rattle.value_store.specs.ValuePlaces.{value_of_record};
+ghost use Rattle.value_store.specs.Contents.{value_of_record};
 
 use crate::ValueInfo;
-use crate::place::ValuePlace;
+use crate::contents::Contents;
 use std::mem::size_of;
 
 /// A value, and its creation number.
 #[derive(Drop)]
 pub(crate) struct ValueRecord {
     pub(crate) number: u64,
-    pub(crate) value: ValuePlace,
+    pub(crate) value: Contents,
 }
 
 // Beside it a live value takes the 8 bytes of its slot and the 4 of its generation (docs/COST.md).

@@ -8,9 +8,9 @@ ghost use Rattle.napi_types.specs.parts.Properties.{most_index, property_at, ele
 ghost use Rattle.napi_types.specs.parts.Values.{value_at, value_changed, fresh_value, with_property, without_property, with_element};
 ghost use Rattle.value_store.specs.StoreChanges.{properties_in, elements_in, children_in, id_at, EachStandsOnce, numbers_of, IsNew, IsStarting, IsObject, StandsAt, ChangesOnly, MakesFresh, MakesValue, MakesList, Frees, CanFree};
 
-use crate::place::ValuePlace;
+use crate::contents::Contents;
 use crate::record::ValueRecord;
-use crate::{Children, ValueInfo, places};
+use crate::{Children, ValueInfo, records};
 use generation_slab::GenerationSlab;
 use mark_bits::Bits;
 use napi_types::{Body, NoMemory, TextNo, ValueId};
@@ -35,7 +35,7 @@ impl Model for Store {
 
     ghost Value = { StoreState };
 
-    ghost use Rattle.value_store.specs.ValuePlaces.{state_of, IsKeptStore};
+    ghost use Rattle.value_store.specs.Contents.{state_of, IsKeptStore};
 
     ghost view = { λ store. state_of store.values store.made };
 
@@ -56,7 +56,7 @@ impl Store {
         ensures { IfOk result IsNew }
     {
         let mut values = GenerationSlab::with_generations(alloc, last);
-        let starting = places::starting(&mut values)?;
+        let starting = records::starting(&mut values)?;
         Ok(Store {
             alloc,
             values,
@@ -84,7 +84,7 @@ impl Store {
         ensures sound { IsSoundStore self.old }
     {
         let number = self.made + 1;
-        let value = ValuePlace::Plain(body);
+        let value = Contents::Plain(body);
         let id = self.values.make(ValueRecord { number, value })?;
         self.made = number;
         Ok(ValueId(id))
@@ -110,7 +110,7 @@ impl Store {
         ensures sound { IsSoundStore self.old }
     {
         let number = self.made + 1;
-        let value = ValuePlace::error(self.alloc, code, message)?;
+        let value = Contents::error(self.alloc, code, message)?;
         let id = self.values.make(ValueRecord { number, value })?;
         self.made = number;
         Ok(ValueId(id))
@@ -128,7 +128,7 @@ impl Store {
         ensures err { OnErr result (self.new ≡ self.old) }
         ensures sound { IsSoundStore self.old }
     {
-        let id = places::make_list(self.alloc, &mut self.values, self.made, bodies)?;
+        let id = records::make_list(self.alloc, &mut self.values, self.made, bodies)?;
         self.made += bodies.len() as u64 + 1;
         Ok(id)
     }
@@ -148,7 +148,7 @@ impl Store {
         ensures err { OnErr result (self.new ≡ self.old) }
         ensures sound { IsSoundStore self.old }
     {
-        let id = places::make_thrown(self.alloc, &mut self.values, self.made, code, message)?;
+        let id = records::make_thrown(self.alloc, &mut self.values, self.made, code, message)?;
         self.made += if code.is_some() { 3 } else { 2 };
         Ok(id)
     }
@@ -230,7 +230,7 @@ impl Store {
         ensures freed { Frees self.old self.new (numbers_of list.now) }
         ensures graph { graph_of self.new ≡ filter (λ v. not (has_number v.number (map (number_in self.old) (numbers_of list.now)))) (graph_of self.old) }
     {
-        places::clear(&mut self.values, list)
+        records::clear(&mut self.values, list)
     }
 
     /// How many places there are. Each live value stands at exactly one, and no number stands at two. Constant time.

@@ -1,5 +1,5 @@
 use Rattle.std.proofs.Common.{◌∙◌, ap, sym, Some, option_map}
-use Rattle.value_store.specs.ValuePlaces.{value_of_record}
+use Rattle.value_store.specs.Contents.{value_of_record}
 use Rattle.value_store.proofs.Graphs.{graph-read}
 use Rattle.value_store.proofs.StoreCalls.{good-view, value-read}
 use Rattle.value_store.proofs.store.Store.get.Goals as goal

@@ -2,7 +2,7 @@ use Rattle.std.proofs.Common.{refl}
 use Rattle.std.proofs.lemmas.List.Elements.{All-nil}
 use Rattle.napi_types.specs.parts.Graph.{IsLive}
 use Rattle.napi_types.specs.parts.Values.{fresh_value}
-use Rattle.value_store.specs.declared.place.ValuePlace.TheVariants.{Plain}
+use Rattle.value_store.specs.declared.contents.Contents.TheVariants.{Plain}
 use Rattle.value_store.proofs.PropertyNames.{distinct-none}
 use Rattle.value_store.proofs.StoreCalls.{make-kept, make-makes, make-graph}
 use Rattle.value_store.proofs.store.Store.make.Goals as goal

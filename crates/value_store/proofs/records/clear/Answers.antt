@@ -2,7 +2,7 @@ use Rattle.std.proofs.Common.{◌∙◌}
 use Rattle.generation_slab.specs.HeldPlaces.{value_of}
 use Rattle.value_store.proofs.Clearing.{next-held, freed-more}
 use Rattle.value_store.proofs.RecordValues.{record-freed}
-use Rattle.value_store.proofs.places.clear.Goals as goal
+use Rattle.value_store.proofs.records.clear.Goals as goal
 
 pub free-requires : goal.free-requires
 free-requires c =

@@ -10,35 +10,35 @@ use Rattle.napi_types.specs.parts.NewValues.{made_after, array_of}
 use Rattle.napi_types.specs.parts.Properties.{Property}
 use Rattle.napi_types.specs.parts.Values.{Value, fresh_value}
 use Rattle.std.specs.List.{All, range_with_len}
-use Rattle.value_store.specs.declared.place.ValuePlace.{ValuePlace}
-use Rattle.value_store.specs.declared.place.ValuePlace.TheVariants.{Plain, One, Full}
+use Rattle.value_store.specs.declared.contents.Contents.{Contents}
+use Rattle.value_store.specs.declared.contents.Contents.TheVariants.{Plain, One, Full}
 use Rattle.value_store.specs.PropertyMaps.{one_property}
 use Rattle.value_store.specs.declared.record.ValueRecord.{ValueRecord}
 use Rattle.value_store.specs.StoreChanges.{EachStandsOnce, IsStarting, IsFresh}
 
 -- the value with this creation number that is and has this. The store keeps no links so far: no value of it has one
-abbrev pub value_here : ℕ → ValuePlace → Value
+abbrev pub value_here : ℕ → Contents → Value
 value_here n (Plain b) = fresh_value n b
 value_here n (One name to b) = record (fresh_value n b) { properties = one_property name to }
 value_here n (Full b parts) = record (fresh_value n b) { properties = parts.value.properties; elements = parts.value.elements }
 
 -- its properties and its elements
-abbrev pub properties_here : ValuePlace → List Property
+abbrev pub properties_here : Contents → List Property
 properties_here (Plain b) = []
 properties_here (One name to b) = one_property name to
 properties_here (Full b parts) = parts.value.properties
 
-abbrev pub elements_here : ValuePlace → List (Option ℕ)
+abbrev pub elements_here : Contents → List (Option ℕ)
 elements_here (Plain b) = []
 elements_here (One name to b) = []
 elements_here (Full b parts) = parts.value.elements
 
 -- it is and has what this value does, whatever its creation number
-abbrev pub HasValue : ValuePlace → (ℕ → Value) → Type 0
+abbrev pub HasValue : Contents → (ℕ → Value) → Type 0
 HasValue p value = (n : ℕ) → value_here n p ≡ value n
 
 -- it is changed so
-abbrev pub ChangesPlace : ValuePlace → ValuePlace → (Value → Value) → Type 0
+abbrev pub ChangesPlace : Contents → Contents → (Value → Value) → Type 0
 ChangesPlace old new change = (n : ℕ) → value_here n new ≡ change (value_here n old)
 
 -- the value of a record
@@ -88,7 +88,7 @@ pub record GrowsTo (s t : StoreState) (vs : List Value) (id : ℕ) : Type 0 wher
   pub number : number_in t id ≡ t.made
 
 -- of an array of these bodies so many values are made, and are its elements; the other elements are still to be set
-pub record ListsSoFar (old new : HeldPlaces ValueRecord) (made : ℕ) (bodies : List Body) (array : ValuePlace) (at : ℕ) : Type 0 where
+pub record ListsSoFar (old new : HeldPlaces ValueRecord) (made : ℕ) (bodies : List Body) (array : Contents) (at : ℕ) : Type 0 where
   pub ids : List ℕ
   pub grows : Grows (state_of old made) (state_of new (made + at)) (made_after made (take at bodies)) ids
   pub once : slab.EachStandsOnce new

@@ -4,7 +4,7 @@ ghost use Rattle.std.specs.List.{range_with_len};
 ghost use Rattle.napi_types.specs.parts.NewValues.{array_of, error_of};
 ghost use Rattle.napi_types.specs.parts.Properties.{most_index, property_at, element_at};
 ghost use Rattle.napi_types.specs.parts.Values.{with_property, without_property, with_element};
-ghost use Rattle.value_store.specs.ValuePlaces.{value_here, properties_here, elements_here, HasValue, ChangesPlace};
+ghost use Rattle.value_store.specs.Contents.{value_here, properties_here, elements_here, HasValue, ChangesPlace};
 
 use crate::parts::Parts;
 use napi_types::{Body, NoMemory, TextNo, ValueId};
@@ -31,7 +31,7 @@ pub(crate) const CODE: TextNo = TextNo(1);
 
 /// What a value is, and what it has by names and by indices. Its creation number is kept beside it.
 #[derive(Drop)]
-pub(crate) enum ValuePlace {
+pub(crate) enum Contents {
     /// A value with no property and no element.
     Plain(Body),
     /// A value with one property, by its name and its value, and no element.
@@ -41,16 +41,16 @@ pub(crate) enum ValuePlace {
     Full(Body, Box<Parts>),
 }
 
-const _: () = prove!(size_of::<ValuePlace>() == 40);
+const _: () = prove!(size_of::<Contents>() == 40);
 
-impl ValuePlace {
+impl Contents {
     /// An array of so many values, whose numbers count up from the first.
-    pub(crate) fn array(alloc: Global, first: u64, count: u32) -> Result<ValuePlace, NoMemory>
+    pub(crate) fn array(alloc: Global, first: u64, count: u32) -> Result<Contents, NoMemory>
         requires count { count ≤ most_index + 1 }
         requires numbers { first + count < 2 ^ 64 }
         ensures { IfOk result (λ place. HasValue place (λ n. array_of n (range_with_len first count))) }
     {
-        let mut place = ValuePlace::Plain(ARRAY);
+        let mut place = Contents::Plain(ARRAY);
         for at in 0..count {
             place.set_element(alloc, at, ValueId(first + u64::from(at)))?;
         }
@@ -62,10 +62,10 @@ impl ValuePlace {
         alloc: Global,
         code: Option<ValueId>,
         message: ValueId,
-    ) -> Result<ValuePlace, NoMemory>
+    ) -> Result<Contents, NoMemory>
         ensures { IfOk result (λ place. HasValue place (λ n. error_of n (option_map (λ c. c.0) code) message.0)) }
     {
-        let mut place = ValuePlace::Plain(ERROR);
+        let mut place = Contents::Plain(ERROR);
         place.set_prop(alloc, MESSAGE, message)?;
         if let Some(code) = code {
             place.set_prop(alloc, CODE, code)?;
@@ -85,21 +85,21 @@ impl ValuePlace {
         ensures absent { OnErr result (property_at name.0 (properties_here self.old) ≡ None) }
     {
         match self {
-            ValuePlace::Plain(body) => {
-                *self = ValuePlace::One(name, to, *body);
+            Contents::Plain(body) => {
+                *self = Contents::One(name, to, *body);
                 Ok(())
             }
-            ValuePlace::One(first, value, body) => {
+            Contents::One(first, value, body) => {
                 if first.0 == name.0 {
                     *value = to;
                     return Ok(());
                 }
                 let mut parts = Parts::with_one(alloc, *first, *value)?;
                 parts.set_prop(alloc, name, to)?;
-                *self = ValuePlace::Full(*body, Box::new(alloc, parts)?);
+                *self = Contents::Full(*body, Box::new(alloc, parts)?);
                 Ok(())
             }
-            ValuePlace::Full(_, parts) => parts.set_prop(alloc, name, to),
+            Contents::Full(_, parts) => parts.set_prop(alloc, name, to),
         }
     }
 
@@ -109,15 +109,15 @@ impl ValuePlace {
         ensures was { result ≡ is_some (property_at name.0 (properties_here self.old)) }
     {
         match self {
-            ValuePlace::Plain(_) => false,
-            ValuePlace::One(first, _, body) => {
+            Contents::Plain(_) => false,
+            Contents::One(first, _, body) => {
                 if first.0 != name.0 {
                     return false;
                 }
-                *self = ValuePlace::Plain(*body);
+                *self = Contents::Plain(*body);
                 true
             }
-            ValuePlace::Full(_, parts) => parts.remove_prop(alloc, name),
+            Contents::Full(_, parts) => parts.remove_prop(alloc, name),
         }
     }
 
@@ -134,19 +134,19 @@ impl ValuePlace {
         ensures absent { OnErr result (element_at at (elements_here self.old) ≡ None) }
     {
         match self {
-            ValuePlace::Plain(body) => {
+            Contents::Plain(body) => {
                 let mut parts = Parts::new(alloc);
                 parts.set_element(alloc, at, to)?;
-                *self = ValuePlace::Full(*body, Box::new(alloc, parts)?);
+                *self = Contents::Full(*body, Box::new(alloc, parts)?);
                 Ok(())
             }
-            ValuePlace::One(name, value, body) => {
+            Contents::One(name, value, body) => {
                 let mut parts = Parts::with_one(alloc, *name, *value)?;
                 parts.set_element(alloc, at, to)?;
-                *self = ValuePlace::Full(*body, Box::new(alloc, parts)?);
+                *self = Contents::Full(*body, Box::new(alloc, parts)?);
                 Ok(())
             }
-            ValuePlace::Full(_, parts) => parts.set_element(alloc, at, to),
+            Contents::Full(_, parts) => parts.set_element(alloc, at, to),
         }
     }
 }

@@ -1,7 +1,7 @@
 use Rattle.std.proofs.Common.{◌+◌, ◌∙◌, ap}
 use Rattle.napi_types.specs.parts.Values.{with_element}
 use Rattle.value_store.proofs.ElementMaps.{array-next}
-use Rattle.value_store.proofs.place.ValuePlace.array.Goals as goal
+use Rattle.value_store.proofs.contents.Contents.array.Goals as goal
 
 pub loop-at-preserved : goal.loop-at-preserved
 loop-at-preserved c = λ n.

@@ -1,5 +1,5 @@
 use Rattle.value_store.proofs.Starting.{all-kept, all-graph}
-use Rattle.value_store.proofs.places.starting.Goals as goal
+use Rattle.value_store.proofs.records.starting.Goals as goal
 
 pub returns-clause-kept : goal.returns-clause-kept
 returns-clause-kept c =

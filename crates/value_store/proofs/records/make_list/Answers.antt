@@ -3,7 +3,7 @@ use Rattle.napi_types.specs.parts.Properties.{element_at}
 use Rattle.value_store.proofs.Listing.{so-many, list-start, list-turn, list-end}
 use Rattle.value_store.proofs.RenamedParts.{array-there}
 use Rattle.value_store.proofs.RecordValues.{elements-here}
-use Rattle.value_store.proofs.places.make_list.Goals as goal
+use Rattle.value_store.proofs.records.make_list.Goals as goal
 
 pub put-id-requires : goal.put-id-requires
 put-id-requires c = omega (arith, c.loop-at.invariant.room, c.loop-at-test.true)

@@ -2,7 +2,7 @@ use Rattle.std.proofs.Common.{◌≡◌, ℕ, cond, take, None}
 use Rattle.generation_slab.specs.HeldPlaces.{value_of, EachStandsOnce}
 use Rattle.napi_types.specs.plain.Lists.{has_number}
 use Rattle.value_store.specs.StoreChanges.{numbers_of}
-use Rattle.value_store.proofs.places.clear.Given as goal
+use Rattle.value_store.proofs.records.clear.Given as goal
 
 abbrev pub invariant-loop-id : goal.invariant-loop-id
 invariant-loop-id l = record {

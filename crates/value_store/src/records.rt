@@ -8,16 +8,16 @@ ghost use Rattle.napi_types.specs.parts.NewValues.{list_of, thrown_of};
 ghost use Rattle.napi_types.specs.parts.Properties.{most_index, element_at, property_at};
 ghost use Rattle.napi_types.specs.parts.Values.{starting_values, with_element, with_property};
 ghost use Rattle.value_store.specs.StoreChanges.{numbers_of};
-ghost use Rattle.value_store.specs.ValuePlaces.{state_of, properties_here, elements_here, ChangesPlace, AddsRecord, IsGood, GrowsTo, IsKeptStore};
+ghost use Rattle.value_store.specs.Contents.{state_of, properties_here, elements_here, ChangesPlace, AddsRecord, IsGood, GrowsTo, IsKeptStore};
 
-use crate::place::{CODE, MESSAGE, ValuePlace};
+use crate::contents::{CODE, Contents, MESSAGE};
 use crate::record::ValueRecord;
 use generation_slab::GenerationSlab;
 use napi_types::{Body, NoMemory, TextNo, ValueId};
 use std::alloc::Global;
 
 /// Holds a value with this creation number. The memory for it is taken.
-fn put(values: &mut GenerationSlab<ValueRecord>, number: u64, value: ValuePlace) -> ValueId
+fn put(values: &mut GenerationSlab<ValueRecord>, number: u64, value: Contents) -> ValueId
     requires { 0 < values.old.room }
     ensures added { AddsRecord values.old values.new result.0 (record { number = number; value = value }) }
     ensures room { values.new.room + 1 ≡ values.old.room }
@@ -34,11 +34,11 @@ pub(crate) fn starting(values: &mut GenerationSlab<ValueRecord>) -> Result<[Valu
 {
     values.reserve(5)?;
     Ok([
-        put(values, 1, ValuePlace::Plain(Body::Undefined)),
-        put(values, 2, ValuePlace::Plain(Body::Null)),
-        put(values, 3, ValuePlace::Plain(Body::Boolean(true))),
-        put(values, 4, ValuePlace::Plain(Body::Boolean(false))),
-        put(values, 5, ValuePlace::Plain(GLOBAL)),
+        put(values, 1, Contents::Plain(Body::Undefined)),
+        put(values, 2, Contents::Plain(Body::Null)),
+        put(values, 3, Contents::Plain(Body::Boolean(true))),
+        put(values, 4, Contents::Plain(Body::Boolean(false))),
+        put(values, 5, Contents::Plain(GLOBAL)),
     ])
 }
 
@@ -64,17 +64,17 @@ pub(crate) fn make_list(
     ensures err { OnErr result (state_of values.new made ≡ state_of values.old made) }
 {
     // Its elements are set as the values are made: until then they are no numbers.
-    let mut array = ValuePlace::array(alloc, 0, bodies.len() as u32)?;
+    let mut array = Contents::array(alloc, 0, bodies.len() as u32)?;
     values.reserve(bodies.len() + 1)?;
     for at in 0..bodies.len() {
-        let id = put(values, made + at as u64 + 1, ValuePlace::Plain(bodies[at]));
+        let id = put(values, made + at as u64 + 1, Contents::Plain(bodies[at]));
         set_again(alloc, &mut array, at as u32, id);
     }
     Ok(put(values, made + bodies.len() as u64 + 1, array))
 }
 
 /// Sets an element that is there. It takes no memory.
-fn set_again(alloc: Global, array: &mut ValuePlace, at: u32, to: ValueId)
+fn set_again(alloc: Global, array: &mut Contents, at: u32, to: ValueId)
     requires index { at ≤ most_index }
     requires there { IsSome (element_at at (elements_here array.old)) }
     ensures { ChangesPlace array.old array.new (with_element at to.0) }
@@ -85,7 +85,7 @@ fn set_again(alloc: Global, array: &mut ValuePlace, at: u32, to: ValueId)
 }
 
 /// Sets a property that is there. It takes no memory.
-fn name_again(alloc: Global, error: &mut ValuePlace, name: TextNo, to: ValueId)
+fn name_again(alloc: Global, error: &mut Contents, name: TextNo, to: ValueId)
     requires { IsSome (property_at name.0 (properties_here error.old)) }
     ensures { ChangesPlace error.old error.new (with_property name.0 to.0) }
 {
@@ -113,18 +113,18 @@ pub(crate) fn make_thrown(
     let none = ValueId(0);
     match code {
         None => {
-            let mut error = ValuePlace::error(alloc, None, none)?;
+            let mut error = Contents::error(alloc, None, none)?;
             values.reserve(2)?;
-            let said = put(values, made + 1, ValuePlace::Plain(Body::Str(message)));
+            let said = put(values, made + 1, Contents::Plain(Body::Str(message)));
             name_again(alloc, &mut error, MESSAGE, said);
             Ok(put(values, made + 2, error))
         }
         Some(code) => {
-            let mut error = ValuePlace::error(alloc, Some(none), none)?;
+            let mut error = Contents::error(alloc, Some(none), none)?;
             values.reserve(3)?;
-            let said = put(values, made + 1, ValuePlace::Plain(Body::Str(message)));
+            let said = put(values, made + 1, Contents::Plain(Body::Str(message)));
             name_again(alloc, &mut error, MESSAGE, said);
-            let coded = put(values, made + 2, ValuePlace::Plain(Body::Str(code)));
+            let coded = put(values, made + 2, Contents::Plain(Body::Str(code)));
             name_again(alloc, &mut error, CODE, coded);
             Ok(put(values, made + 3, error))
         }

@@ -3,10 +3,10 @@ use Rattle.napi_types.specs.plain.Texts.{message_text, code_text}
 use Rattle.napi_types.specs.parts.NewValues.{thrown_of}
 use Rattle.napi_types.specs.parts.Properties.{property_at}
 use Rattle.napi_types.specs.parts.Values.{with_property}
-use Rattle.value_store.specs.ValuePlaces.{state_of, GrowsTo}
+use Rattle.value_store.specs.Contents.{state_of, GrowsTo}
 use Rattle.value_store.proofs.RecordValues.{properties-here}
 use Rattle.value_store.proofs.Thrown.{thrown-plain, thrown-coded}
-use Rattle.value_store.proofs.places.make_thrown.Goals as goal
+use Rattle.value_store.proofs.records.make_thrown.Goals as goal
 
 pub name_again-requires : goal.name_again-requires
 name_again-requires c =
