@@ -32,6 +32,6 @@ pub use entry::{
 pub use ids::{HandleId, RefId, ScopeId, ScopeKind, TextNo, Ticket, TsfnId, ValueId, WorkId};
 pub use lists::{Actors, AddonPlan, EntryList, Listed, LocalList, OpList, OpLists, Plans, Record};
 pub use op::{Op, Regs};
-pub use script::{HIGHEST_VERSION, LOWEST_VERSION, LimitName, Place, Script, Wrong};
+pub use script::{HIGHEST_VERSION, LOWEST_VERSION, LimitName, Mistake, Script, ScriptPart};
 pub use status::{Kind, Status};
 pub use text::{Text, Texts};

@@ -30,7 +30,7 @@ pub struct Script {
 
 /// A part of a script. Addons, entries, operations, threads and words are counted from 0.
 #[derive(Clone, Copy, Debug, PartialEq, Eq)]
-pub enum Place {
+pub enum ScriptPart {
     Root,
     Version,
     Workers,
@@ -68,14 +68,14 @@ pub enum LimitName {
 
 /// What is wrong with a JSON value that is no script.
 #[derive(Clone, Copy, Debug, PartialEq, Eq)]
-pub enum Wrong {
+pub enum Mistake {
     /// A part has the wrong form, or is missing.
-    Shape(Place),
+    Shape(ScriptPart),
     /// There are more than there may be.
     Limit(LimitName),
 }
 
-impl Place {
+impl ScriptPart {
     /// The path of the part in the script, as a refusal names it.
     pub fn path(self, alloc: Global) -> Result<Text, NoMemory>
         ensures { IfOk result (λ text. text ≡ path self) }
@@ -88,20 +88,20 @@ impl Place {
         ensures { IfOk result (λ text. string_bytes text ≡ path self) }
     {
         match self {
-            Place::Root => format!(in alloc; "-"),
-            Place::Version => format!(in alloc; "version"),
-            Place::Workers => format!(in alloc; "workers"),
-            Place::Addons => format!(in alloc; "addons"),
-            Place::Threads => format!(in alloc; "threads"),
-            Place::Schedule => format!(in alloc; "schedule"),
-            Place::Addon(a) => format!(in alloc; "addons/{a}"),
-            Place::Name(a) => format!(in alloc; "addons/{a}/name"),
-            Place::Entries(a) => format!(in alloc; "addons/{a}/entries"),
-            Place::Entry(a, e) => format!(in alloc; "addons/{a}/entries/{e}"),
-            Place::Operation(a, e, o) => format!(in alloc; "addons/{a}/entries/{e}/{o}"),
-            Place::Thread(t) => format!(in alloc; "threads/{t}"),
-            Place::ThreadOperation(t, o) => format!(in alloc; "threads/{t}/{o}"),
-            Place::Word(s) => format!(in alloc; "schedule/{s}"),
+            ScriptPart::Root => format!(in alloc; "-"),
+            ScriptPart::Version => format!(in alloc; "version"),
+            ScriptPart::Workers => format!(in alloc; "workers"),
+            ScriptPart::Addons => format!(in alloc; "addons"),
+            ScriptPart::Threads => format!(in alloc; "threads"),
+            ScriptPart::Schedule => format!(in alloc; "schedule"),
+            ScriptPart::Addon(a) => format!(in alloc; "addons/{a}"),
+            ScriptPart::Name(a) => format!(in alloc; "addons/{a}/name"),
+            ScriptPart::Entries(a) => format!(in alloc; "addons/{a}/entries"),
+            ScriptPart::Entry(a, e) => format!(in alloc; "addons/{a}/entries/{e}"),
+            ScriptPart::Operation(a, e, o) => format!(in alloc; "addons/{a}/entries/{e}/{o}"),
+            ScriptPart::Thread(t) => format!(in alloc; "threads/{t}"),
+            ScriptPart::ThreadOperation(t, o) => format!(in alloc; "threads/{t}/{o}"),
+            ScriptPart::Word(s) => format!(in alloc; "schedule/{s}"),
         }
     }
 }

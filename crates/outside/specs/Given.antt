@@ -2,8 +2,8 @@
 use Rattle.std.specs.Prelude.{◌≡◌, ◌≤◌, ◌<◌, ◌^◌, ℕ, Bool, true, false, List, length, is_some, IfSome, Result, Ok, Err, ⊤}
 use Rattle.std.specs.Io.KnownBytes.{prepend_known, IsAtEnd}
 use Rattle.napi_types.specs.declared.script.Script.{Script}
-use Rattle.napi_types.specs.declared.script.Wrong.{Wrong}
-use Rattle.napi_types.specs.declared.script.Wrong.TheVariants as wrong
+use Rattle.napi_types.specs.declared.script.Mistake.{Mistake}
+use Rattle.napi_types.specs.declared.script.Mistake.TheVariants as wrong
 use Rattle.napi_types.specs.plain.Edge.{HasRisen}
 use Rattle.napi_types.specs.scripts.Script.{IsScript, IsWrong, HasWrongShape}
 use Rattle.napi_types.specs.scripts.ScriptReading.{IsNoJson}
@@ -47,7 +47,7 @@ pub record GaveNoJson (input : Input) : Type 0 where
   pub is_no_json : IsNoJson bytes
 
 -- the source gave a JSON text that is no script, and this is the first thing that is wrong
-pub record GaveWrong (input : Input) (w : Wrong) : Type 0 where
+pub record GaveWrong (input : Input) (w : Mistake) : Type 0 where
   pub bytes : List ℕ
   pub gave : Gave input bytes
   pub is_wrong : IsWrong bytes w

@@ -4,8 +4,8 @@ use Rattle.std.proofs.Common.{Option, Some, None, Ok, Err, ◌⊎◌, inl, inr}
 use Rattle.std.specs.Prelude.{IfSome}
 use Rattle.serde_json.specs.Data.{Data}
 use Rattle.napi_types.specs.declared.script.Script.{Script}
-use Rattle.napi_types.specs.declared.script.Wrong.{Wrong}
-use Rattle.napi_types.specs.declared.script.Wrong.TheVariants as wrong
+use Rattle.napi_types.specs.declared.script.Mistake.{Mistake}
+use Rattle.napi_types.specs.declared.script.Mistake.TheVariants as wrong
 use Rattle.napi_types.specs.plain.Edge.{HasRisen}
 use Rattle.napi_types.specs.scripts.Script.{IsScript, IsWrong, script}
 use Rattle.napi_types.specs.scripts.ScriptReading.{IsJson, IsNoJson}
@@ -34,7 +34,7 @@ one-value bytes d e a b = let same : Some d ≡ Some e = sym a.1 ∙ b.1 in cc
 no-json : (bytes : List ℕ) (s : Script) → IsScript bytes s → IsNoJson bytes → ⊥
 no-json bytes s is none = let no : Some is.0 ≡ None = sym is.1.1 ∙ none is.1.0 in cc
 
-no-wrong : (bytes : List ℕ) (s : Script) (w : Wrong) → IsScript bytes s → IsWrong bytes w → ⊥
+no-wrong : (bytes : List ℕ) (s : Script) (w : Mistake) → IsScript bytes s → IsWrong bytes w → ⊥
 no-wrong bytes s w is bad =
     let same : bad.0 ≡ is.0 = one-value bytes bad.0 is.0 bad.1 is.1 in
     let no : Err w ≡ Ok s = sym bad.2 ∙ ap script same ∙ is.2 in
@@ -51,7 +51,7 @@ pub no-refused : (d : Demand) (bytes : List ℕ) (handed : ℕ) → AreRefused d
     → is_met d s ≡ true → ⊥
 no-refused d bytes handed bad s is enough met = by bad.why
   where
-    by : IsNoJson bytes ⊎ (((w : Wrong) × IsWrong bytes w) ⊎ (HasTooManyAddons bytes handed ⊎ LacksSchedule d bytes handed)) → ⊥
+    by : IsNoJson bytes ⊎ (((w : Mistake) × IsWrong bytes w) ⊎ (HasTooManyAddons bytes handed ⊎ LacksSchedule d bytes handed)) → ⊥
     by (inl none) = no-json bytes s is none
     by (inr (inl wrong_there)) = no-wrong bytes s wrong_there.0 is wrong_there.1
     by (inr (inr (inl many))) =
@@ -76,7 +76,7 @@ module _ (d : Demand) (input : Input) (handed : ℕ) (bytes : List ℕ) (has : i
   told-json : (given : List ℕ) → Gave input given → IsNoJson given → IsNoJson bytes
   told-json given gave none = subst (λ (b : List ℕ). IsNoJson b) (all-told given gave) none
 
-  told-wrong : (given : List ℕ) (w : Wrong) → Gave input given → IsWrong given w → IsWrong bytes w
+  told-wrong : (given : List ℕ) (w : Mistake) → Gave input given → IsWrong given w → IsWrong bytes w
   told-wrong given w gave bad = subst (λ (b : List ℕ). IsWrong b w) (all-told given gave) bad
 
   told-script : (s : Script) → GaveScript input s → IsScript bytes s
@@ -126,10 +126,10 @@ module _ (d : Demand) (input : Input) (handed : ℕ) (bytes : List ℕ) (has : i
   memory-alone fit line.Usage cause = absurd cause
   memory-alone fit line.NotJson cause = absurd (no-json bytes fit.script fit.is_script (told-json cause.bytes cause.gave cause.is_no_json))
   memory-alone fit (line.Shape path) cause =
-      let w : Wrong = wrong.Shape cause.has_wrong_shape.0 in
+      let w : Mistake = wrong.Shape cause.has_wrong_shape.0 in
       absurd (no-wrong bytes fit.script w fit.is_script (told-wrong cause.bytes w cause.gave cause.has_wrong_shape.2))
   memory-alone fit (line.Limit which) cause =
-      let w : Wrong = wrong.Limit which in
+      let w : Mistake = wrong.Limit which in
       absurd (no-wrong bytes fit.script w fit.is_script (told-wrong cause.bytes w cause.gave cause.is_wrong))
   memory-alone fit line.TooManyAddons cause =
       let same : cause.script ≡ fit.script = one-script bytes cause.script fit.script (told-script cause.script cause.gave) fit.is_script in

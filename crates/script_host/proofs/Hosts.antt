@@ -1,8 +1,8 @@
 -- Which line stands for which status, and why.
 use Rattle.std.proofs.Common.{◌≡◌, ◌<◌, ◌∙◌, ℕ, true, false, List, [], length, Option, Some, None, refl, ap, sym, arith}
 use Rattle.std.proofs.Common.{◌⊎◌, inl, inr}
-use Rattle.napi_types.specs.declared.script.Wrong.{Wrong}
-use Rattle.napi_types.specs.declared.script.Wrong.TheVariants as wrong
+use Rattle.napi_types.specs.declared.script.Mistake.{Mistake}
+use Rattle.napi_types.specs.declared.script.Mistake.TheVariants as wrong
 use Rattle.napi_types.specs.scripts.Script.{IsWrong}
 use Rattle.napi_types.specs.scripts.ScriptReading.{IsNoJson}
 use Rattle.outside.specs.Ends.{Input}
@@ -38,7 +38,7 @@ record GaveRefused (d : Demand) (input : Input) (handed : ℕ) : Type 0 where
 
 -- bytes that a source gave are not too long
 refused : (d : Demand) (input : Input) (bytes : List ℕ) (handed : ℕ) → Gave input bytes
-    → IsNoJson bytes ⊎ (((w : Wrong) × IsWrong bytes w) ⊎ (HasTooManyAddons bytes handed ⊎ LacksSchedule d bytes handed)) → GaveRefused d input handed
+    → IsNoJson bytes ⊎ (((w : Mistake) × IsWrong bytes w) ⊎ (HasTooManyAddons bytes handed ⊎ LacksSchedule d bytes handed)) → GaveRefused d input handed
 refused d input bytes handed gave why = record { bytes = bytes; gave = gave; are_refused = record { short = gave.within; why = why } }
 
 -- a line with the status of a refusal has a refusal as its cause: where the source was read

@@ -6,10 +6,10 @@ use Rattle.serde_json.specs.Find.{get, as_array}
 use Rattle.std.specs.Prelude.{codes, option_and_then}
 use Rattle.napi_types.specs.declared.script.LimitName.{LimitName}
 use Rattle.napi_types.specs.declared.script.LimitName.TheVariants as limit
-use Rattle.napi_types.specs.declared.script.Place.{Place}
-use Rattle.napi_types.specs.declared.script.Place.TheVariants as place
+use Rattle.napi_types.specs.declared.script.ScriptPart.{ScriptPart}
+use Rattle.napi_types.specs.declared.script.ScriptPart.TheVariants as place
 use Rattle.napi_types.specs.declared.script.Script.{Script}
-use Rattle.napi_types.specs.declared.script.Wrong.TheVariants as wrong
+use Rattle.napi_types.specs.declared.script.Mistake.TheVariants as wrong
 use Rattle.napi_types.specs.declared.lists.AddonPlan.{AddonPlan}
 use Rattle.napi_types.specs.scripts.Script.{addons_in, is_root, version_in, workers_in, threads_in, script}
 use Rattle.napi_types.specs.scripts.ScriptAddons.{addon_at}
@@ -42,7 +42,7 @@ within_limit-limit which most n u e = by (nat_le n most) refl e
     by true h k = grind arith
     by false h k = cc
 
-pub list-short : (p : Place) (which : LimitName) (most : ℕ) (found : Option Data) (ds : Items) → list_at p which most found ≡ Ok ds → items_len ds ≤ most
+pub list-short : (p : ScriptPart) (which : LimitName) (most : ℕ) (found : Option Data) (ds : Items) → list_at p which most found ≡ Ok ds → items_len ds ≤ most
 unfolding list_at
 list-short p which most found ds e =
     let items : Both (formed p (option_and_then as_array found)) _ ds = both (formed p (option_and_then as_array found)) _ ds e in

@@ -11,8 +11,8 @@ use Rattle.napi_types.specs.declared.entry.Actor.TheVariants as actor
 use Rattle.napi_types.specs.declared.op.Op.{Op}
 use Rattle.napi_types.specs.declared.op.Op.TheVariants as op
 use Rattle.napi_types.specs.declared.script.LimitName.TheVariants as limit
-use Rattle.napi_types.specs.declared.script.Place.{Place}
-use Rattle.napi_types.specs.declared.script.Place.TheVariants as place
+use Rattle.napi_types.specs.declared.script.ScriptPart.{ScriptPart}
+use Rattle.napi_types.specs.declared.script.ScriptPart.TheVariants as place
 use Rattle.napi_types.specs.declared.script.Script.{Script}
 use Rattle.napi_types.specs.plain.Numbers.{is_supported}
 use Rattle.napi_types.specs.scripts.Script.{version_in, workers_in, threads_in}
@@ -53,7 +53,7 @@ every-all {A} P f holds n (item d ds) found e =
     subst (All P) same (All-cons P one.first rest.first (holds n d one.first one.was) (every-all P f holds (n + 1) ds rest.first rest.was))
 
 -- what has its form is there
-formed-some : {A : Type 0} (p : Place) (o : Option A) (a : A) → formed p o ≡ Ok a → o ≡ Some a
+formed-some : {A : Type 0} (p : ScriptPart) (o : Option A) (a : A) → formed p o ≡ Ok a → o ≡ Some a
 formed-some p (Some b) a e = cc
 formed-some p None a e = cc
 
@@ -210,7 +210,7 @@ are-words threads workers (Some d) schedule e =
     (every-all (IsActorAt (hub_numbers threads workers)) (word_at threads workers) (of-word threads workers) 0 items.first words.first words.was)
 
 -- the version of a script is one that is supported
-is-formed : (p : Place) (b : Bool) (u : Unit {0}) → when_formed p b ≡ Ok u → b ≡ true
+is-formed : (p : ScriptPart) (b : Bool) (u : Unit {0}) → when_formed p b ≡ Ok u → b ≡ true
 is-formed p true u e = refl
 is-formed p false u e = cc
 

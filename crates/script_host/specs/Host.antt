@@ -2,7 +2,7 @@
 use Rattle.std.specs.Prelude.{◌≡◌, ◌≢◌, ◌≤◌, ◌<◌, ◌↔◌, ℕ, true, false, List, length, Some, Option, None, Result, Ok, Err, ◌⊎◌, ⊤}
 use Rattle.napi_types.specs.declared.lists.Record.{Record}
 use Rattle.napi_types.specs.declared.script.Script.{Script}
-use Rattle.napi_types.specs.declared.script.Wrong.{Wrong}
+use Rattle.napi_types.specs.declared.script.Mistake.{Mistake}
 use Rattle.napi_types.specs.plain.Edge.{HasRisen}
 use Rattle.napi_types.specs.scripts.Script.{IsScript, IsWrong}
 use Rattle.napi_types.specs.scripts.ScriptReading.{IsNoJson}
@@ -42,7 +42,7 @@ pub record LacksSchedule (d : Demand) (bytes : List ℕ) (handed : ℕ) : Type 0
 -- is demanded
 pub record AreRefused (d : Demand) (bytes : List ℕ) (handed : ℕ) : Type 0 where
   pub short : length bytes ≤ longest_source
-  pub why : IsNoJson bytes ⊎ (((w : Wrong) × IsWrong bytes w) ⊎ (HasTooManyAddons bytes handed ⊎ LacksSchedule d bytes handed))
+  pub why : IsNoJson bytes ⊎ (((w : Mistake) × IsWrong bytes w) ⊎ (HasTooManyAddons bytes handed ⊎ LacksSchedule d bytes handed))
 
 -- the bytes are not too long, and they are a script with no more addons than were handed in, and with the schedule, where one is demanded
 pub record AreRunnable (d : Demand) (bytes : List ℕ) (handed : ℕ) : Type 0 where

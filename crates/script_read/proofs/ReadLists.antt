@@ -6,7 +6,7 @@ use Rattle.serde_json.specs.Events.{items_len, members_len}
 use Rattle.serde_json.specs.View.{view, items_view, members_view}
 use Rattle.serde_json.specs.declared.value.Value.{Value}
 use Rattle.serde_json.proofs.Views.{items_len-items_view, members_len-members_view}
-use Rattle.napi_types.specs.declared.script.Wrong.{Wrong}
+use Rattle.napi_types.specs.declared.script.Mistake.{Mistake}
 use Rattle.napi_types.specs.scripts.ScriptReading.{Table, Reading, Read, read_with, each, every, ◌>>=◌}
 use Rattle.script_read.specs.ReadLists.{onto, before}
 use Rattle.script_read.specs.Reads.{Stops}
@@ -42,7 +42,7 @@ each-more : {A : Type 0} (f : ℕ → Table → Data → Reading (Read A)) (n : 
 unfolding each
 each-more f n t u v vs a e = rw e (onto-first a (each f (n + 1) u (items_view vs)))
 
-each-wrong : {A : Type 0} (f : ℕ → Table → Data → Reading (Read A)) (n : ℕ) (t : Table) (v : Value) (vs : List Value) (w : Wrong)
+each-wrong : {A : Type 0} (f : ℕ → Table → Data → Reading (Read A)) (n : ℕ) (t : Table) (v : Value) (vs : List Value) (w : Mistake)
     → f n t (view v) ≡ Err w → each f n t (items_view (v ∷ vs)) ≡ Err w
 unfolding each
 each-wrong f n t v vs w e = rw e refl
@@ -59,7 +59,7 @@ each-next {A} f xs ys t u vs n v a whole within here e grown h =
     let Q : List A → Type 0 = λ l. onto l (each f (n + 1) u (items_view (drop (n + 1) vs))) ≡ whole in
     subst Q (sym grown) (onto-more xs a _ whole (ap (onto xs) (sym (each-more f n t u v (drop (n + 1) vs) a e)) ∙ subst P (from-here vs n v within here) h))
 
-each-stops : {A : Type 0} (f : ℕ → Table → Data → Reading (Read A)) (xs : List A) (t : Table) (vs : List Value) (n : ℕ) (v : Value) (w : Wrong) (whole : Reading (Read (List A)))
+each-stops : {A : Type 0} (f : ℕ → Table → Data → Reading (Read A)) (xs : List A) (t : Table) (vs : List Value) (n : ℕ) (v : Value) (w : Mistake) (whole : Reading (Read (List A)))
     → n < length vs → v ≡ get_or vs n v → f n t (view v) ≡ Err w
     → onto xs (each f n t (items_view (drop n vs))) ≡ whole → whole ≡ Err w
 each-stops f xs t vs n v w whole within here e h =
@@ -68,7 +68,7 @@ each-stops f xs t vs n v w whole within here e h =
 
 pub each-stopped : {A : Type 0} (f : ℕ → Table → Data → Reading (Read A)) (xs : List A) (t : Table) (vs : List Value) (n : ℕ) (v : Value) (s : ReadingStop) (whole : Reading (Read (List A)))
     → n < length vs → v ≡ get_or vs n v → Stops s (f n t (view v)) → onto xs (each f n t (items_view (drop n vs))) ≡ whole → Stops s whole
-each-stopped f xs t vs n v (stop.Wrong w) whole within here e h = each-stops f xs t vs n v w whole within here e h
+each-stopped f xs t vs n v (stop.Mistake w) whole within here e h = each-stops f xs t vs n v w whole within here e h
 each-stopped f xs t vs n v stop.NoMemory whole within here e h = tt
 each-stopped f xs t vs n v stop.NotJson whole within here e h = absurd e
 
@@ -95,7 +95,8 @@ every-more : {A : Type 0} (f : ℕ → Data → Reading A) (n : ℕ) (v : Value)
 unfolding every
 every-more f n v vs a e = rw e (before-first a (every f (n + 1) (items_view vs)))
 
-every-wrong : {A : Type 0} (f : ℕ → Data → Reading A) (n : ℕ) (v : Value) (vs : List Value) (w : Wrong) → f n (view v) ≡ Err w → every f n (items_view (v ∷ vs)) ≡ Err w
+every-wrong : {A : Type 0} (f : ℕ → Data → Reading A) (n : ℕ) (v : Value) (vs : List Value) (w : Mistake) → f n (view v) ≡ Err w
+    → every f n (items_view (v ∷ vs)) ≡ Err w
 unfolding every
 every-wrong f n v vs w e = rw e refl
 
@@ -111,7 +112,7 @@ every-next {A} f xs ys vs n v a whole within here e grown h =
     let Q : List A → Type 0 = λ l. before l (every f (n + 1) (items_view (drop (n + 1) vs))) ≡ whole in
     subst Q (sym grown) (before-more xs a _ whole (ap (before xs) (sym (every-more f n v (drop (n + 1) vs) a e)) ∙ subst P (from-here vs n v within here) h))
 
-every-stops : {A : Type 0} (f : ℕ → Data → Reading A) (xs : List A) (vs : List Value) (n : ℕ) (v : Value) (w : Wrong) (whole : Reading (List A))
+every-stops : {A : Type 0} (f : ℕ → Data → Reading A) (xs : List A) (vs : List Value) (n : ℕ) (v : Value) (w : Mistake) (whole : Reading (List A))
     → n < length vs → v ≡ get_or vs n v → f n (view v) ≡ Err w → before xs (every f n (items_view (drop n vs))) ≡ whole → whole ≡ Err w
 every-stops f xs vs n v w whole within here e h =
     let P : List Value → Type 0 = λ l. before xs (every f n (items_view l)) ≡ whole in
@@ -119,7 +120,7 @@ every-stops f xs vs n v w whole within here e h =
 
 pub every-stopped : {A : Type 0} (f : ℕ → Data → Reading A) (xs : List A) (vs : List Value) (n : ℕ) (v : Value) (s : ReadingStop) (whole : Reading (List A))
     → n < length vs → v ≡ get_or vs n v → Stops s (f n (view v)) → before xs (every f n (items_view (drop n vs))) ≡ whole → Stops s whole
-every-stopped f xs vs n v (stop.Wrong w) whole within here e h = every-stops f xs vs n v w whole within here e h
+every-stopped f xs vs n v (stop.Mistake w) whole within here e h = every-stops f xs vs n v w whole within here e h
 every-stopped f xs vs n v stop.NoMemory whole within here e h = tt
 every-stopped f xs vs n v stop.NotJson whole within here e h = absurd e
 

@@ -8,7 +8,7 @@ use Rattle.script_read.specs.declared.json.ReadingStop.TheVariants as stop
 
 -- a reading stops so: this is wrong, or there was no memory
 abbrev pub Stops : {A : Type 0} → ReadingStop → Reading A → Type 0
-Stops (stop.Wrong w) reading = reading ≡ Err w
+Stops (stop.Mistake w) reading = reading ≡ Err w
 Stops stop.NoMemory reading = ⊤
 Stops stop.NotJson reading = ⊥
 

@@ -8,7 +8,7 @@ ghost use Rattle.script_read.specs.Reads.{ReadsAs};
 use crate::entry::entry_at;
 use crate::json::{ReadingStop, has_members, list_at};
 use crate::texts::TextTable;
-use napi_types::{AddonPlan, LimitName, Listed, OpLists, Place, Plans, Wrong};
+use napi_types::{AddonPlan, LimitName, Listed, Mistake, OpLists, Plans, ScriptPart};
 use serde_json::Value;
 use std::alloc::Global;
 
@@ -54,12 +54,12 @@ fn addon_at(
     ensures { ReadsAs (read_with table.new) result (addon_at a table.old (view value.now)) }
 {
     if !is_addon(value) {
-        return Err(ReadingStop::Wrong(Wrong::Shape(Place::Addon(a))));
+        return Err(ReadingStop::Mistake(Mistake::Shape(ScriptPart::Addon(a))));
     }
     if value.get("name").and_then(Value::as_str).is_none() {
-        return Err(ReadingStop::Wrong(Wrong::Shape(Place::Name(a))));
+        return Err(ReadingStop::Mistake(Mistake::Shape(ScriptPart::Name(a))));
     }
-    let place = Place::Entries(a);
+    let place = ScriptPart::Entries(a);
     let items = list_at(
         place,
         LimitName::Entries,

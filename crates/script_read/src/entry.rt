@@ -7,7 +7,7 @@ ghost use Rattle.script_read.specs.Reads.{ReadsAs};
 use crate::json::{ReadingStop, list_at};
 use crate::operation::operation_in;
 use crate::texts::TextTable;
-use napi_types::{LimitName, Listed, NoMemory, Op, OpList, Place, Wrong};
+use napi_types::{LimitName, Listed, Mistake, NoMemory, Op, OpList, ScriptPart};
 use serde_json::Value;
 use std::alloc::Global;
 
@@ -29,7 +29,7 @@ fn operation_at(
 {
     match operation_in(alloc, entries, table, value) {
         Ok(Some(operation)) => Ok(operation),
-        Ok(None) => Err(ReadingStop::Wrong(Wrong::Shape(Place::Operation(a, e, o)))),
+        Ok(None) => Err(ReadingStop::Mistake(Mistake::Shape(ScriptPart::Operation(a, e, o)))),
         Err(NoMemory) => Err(ReadingStop::NoMemory),
     }
 }
@@ -67,7 +67,7 @@ pub(crate) fn entry_at(
 ) -> Result<OpList, ReadingStop>
     ensures { ReadsAs (read_with table.new) result (entry_at entries a e table.old (view value.now)) }
 {
-    let place = Place::Entry(a, e);
+    let place = ScriptPart::Entry(a, e);
     let items = list_at(place, LimitName::Operations, MOST_OPERATIONS, Some(value))?;
     each_operation(alloc, entries, a, e, table, items)
 }

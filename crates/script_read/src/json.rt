@@ -6,7 +6,7 @@ ghost use Rattle.napi_types.specs.scripts.ScriptAddons.{has_members};
 ghost use Rattle.napi_types.specs.scripts.ScriptReading.{IsJson, IsNoJson, list_at};
 ghost use Rattle.script_read.specs.Reads.{ReadsAs};
 
-use napi_types::{LimitName, Place, Wrong};
+use napi_types::{LimitName, Mistake, ScriptPart};
 use serde_json::Value;
 use std::alloc::Global;
 
@@ -16,7 +16,7 @@ pub(crate) enum ReadingStop {
     /// The bytes are no JSON text.
     NotJson,
     /// This is the first thing that is wrong with the value.
-    Wrong(Wrong),
+    Mistake(Mistake),
     /// There was no memory to go on.
     NoMemory,
 }
@@ -25,7 +25,7 @@ pub(crate) enum ReadingStop {
 pub(crate) fn json_of(alloc: Global, bytes: &[u8]) -> Result<Value, ReadingStop>
     ensures ok { IfOk result (λ value. IsJson bytes.now (view value)) }
     ensures not_json { result ≡ Err ReadingStop.NotJson → IsNoJson bytes.now }
-    ensures right { (w : Wrong) → ¬ (result ≡ Err (ReadingStop.Wrong w)) }
+    ensures right { (w : Mistake) → ¬ (result ≡ Err (ReadingStop.Mistake w)) }
 {
     match Value::from_slice(alloc, bytes) {
         Ok(value) => Ok(value),
@@ -50,7 +50,7 @@ fn items(value: &Value) -> Option<&[Value]>
 /// The items of an array with at most so many.
 #[tactic(auto, using(crate::proofs::ReadLists::items_len_of), unfolding(napi_types::specs::scripts::ScriptReading::list_at))]
 pub(crate) fn list_at<'v>(
-    place: Place,
+    place: ScriptPart,
     which: LimitName,
     most: usize,
     found: Option<&'v Value>,
@@ -59,12 +59,12 @@ pub(crate) fn list_at<'v>(
     ensures few { IfOk result (λ items. length items.now ≤ most) }
 {
     let Some(items) = found.and_then(items) else {
-        return Err(ReadingStop::Wrong(Wrong::Shape(place)));
+        return Err(ReadingStop::Mistake(Mistake::Shape(place)));
     };
     if items.len() <= most {
         Ok(items)
     } else {
-        Err(ReadingStop::Wrong(Wrong::Limit(which)))
+        Err(ReadingStop::Mistake(Mistake::Limit(which)))
     }
 }
 

@@ -4,7 +4,7 @@
 #![tactic(auto)]
 
 ghost use Rattle.std.specs.Prelude.{◌≡◌, IfOk, List, ℕ};
-ghost use Rattle.napi_types.specs.declared.script.Wrong.TheVariants as wrong;
+ghost use Rattle.napi_types.specs.declared.script.Mistake.TheVariants as wrong;
 ghost use Rattle.napi_types.specs.scripts.Script.{IsScript, IsWrong, HasWrongShape};
 ghost use Rattle.napi_types.specs.scripts.ScriptPaths.{path as path_of};
 ghost use Rattle.napi_types.specs.scripts.ScriptReading.{IsNoJson};
@@ -23,7 +23,7 @@ mod threads;
 
 use json::{ReadingStop, json_of};
 pub use napi_types::{LimitName, Script};
-use napi_types::{NoMemory, Place, Text, Wrong};
+use napi_types::{Mistake, NoMemory, ScriptPart, Text};
 use root::script;
 use std::alloc::Global;
 
@@ -44,7 +44,7 @@ pub enum Refusal {
 fn read(alloc: Global, bytes: &[u8]) -> Result<Script, ReadingStop>
     ensures ok { IfOk result (λ found. IsScript bytes.now found) }
     ensures json { result ≡ Err ReadingStop.NotJson → IsNoJson bytes.now }
-    ensures wrong { (w : Wrong) → result ≡ Err (ReadingStop.Wrong w) → IsWrong bytes.now w }
+    ensures wrong { (w : Mistake) → result ≡ Err (ReadingStop.Mistake w) → IsWrong bytes.now w }
 {
     let value = json_of(alloc, bytes)?;
     script(alloc, &value)
@@ -53,14 +53,14 @@ fn read(alloc: Global, bytes: &[u8]) -> Result<Script, ReadingStop>
 /// The refusal that tells why reading stopped.
 fn refusal_of(alloc: Global, stop: ReadingStop) -> Refusal
     ensures json { result ≡ Refusal.NotJson → stop ≡ ReadingStop.NotJson }
-    ensures shape { (text : List ℕ) → result ≡ Refusal.Shape text → (p : Place) × (text ≡ path_of p) × (stop ≡ ReadingStop.Wrong (wrong.Shape p)) }
-    ensures limit { (which : LimitName) → result ≡ Refusal.Limit which → stop ≡ ReadingStop.Wrong (wrong.Limit which) }
+    ensures shape { (text : List ℕ) → result ≡ Refusal.Shape text → (p : ScriptPart) × (text ≡ path_of p) × (stop ≡ ReadingStop.Mistake (wrong.Shape p)) }
+    ensures limit { (which : LimitName) → result ≡ Refusal.Limit which → stop ≡ ReadingStop.Mistake (wrong.Limit which) }
 {
     match stop {
         ReadingStop::NotJson => Refusal::NotJson,
         ReadingStop::NoMemory => Refusal::NoMemory,
-        ReadingStop::Wrong(Wrong::Limit(which)) => Refusal::Limit { which },
-        ReadingStop::Wrong(Wrong::Shape(place)) => match place.path(alloc) {
+        ReadingStop::Mistake(Mistake::Limit(which)) => Refusal::Limit { which },
+        ReadingStop::Mistake(Mistake::Shape(place)) => match place.path(alloc) {
             Ok(path) => Refusal::Shape { path },
             Err(NoMemory) => Refusal::NoMemory,
         },

@@ -14,7 +14,8 @@ use crate::schedule::schedule_in;
 use crate::texts::TextTable;
 use crate::threads::each_thread;
 use napi_types::{
-    HIGHEST_VERSION, LOWEST_VERSION, LimitName, NoMemory, OpLists, Place, Plans, Script, Wrong,
+    HIGHEST_VERSION, LOWEST_VERSION, LimitName, Mistake, NoMemory, OpLists, Plans, Script,
+    ScriptPart,
 };
 use serde_json::Value;
 use std::alloc::Global;
@@ -60,7 +61,7 @@ fn version_in(found: Option<&Value>) -> Result<u32, ReadingStop>
 {
     match found.and_then(whole) {
         Some(version) if is_supported(version) => Ok(version as u32),
-        _ => Err(ReadingStop::Wrong(Wrong::Shape(Place::Version))),
+        _ => Err(ReadingStop::Mistake(Mistake::Shape(ScriptPart::Version))),
     }
 }
 
@@ -70,19 +71,19 @@ fn workers_in(found: Option<&Value>) -> Result<u32, ReadingStop>
     ensures { Reads result (workers_in (option_map (λ v. view v.now) found.entry)) }
 {
     let Some(number) = found.and_then(whole) else {
-        return Err(ReadingStop::Wrong(Wrong::Shape(Place::Workers)));
+        return Err(ReadingStop::Mistake(Mistake::Shape(ScriptPart::Workers)));
     };
     if number <= MOST_WORKERS {
         Ok(number as u32)
     } else {
-        Err(ReadingStop::Wrong(Wrong::Limit(LimitName::Workers)))
+        Err(ReadingStop::Mistake(Mistake::Limit(LimitName::Workers)))
     }
 }
 
 /// The table of the texts that stand in every one.
 fn first_texts(alloc: Global) -> Result<TextTable, ReadingStop>
     ensures ok { IfOk result (λ table. table ≡ fixed_texts) }
-    ensures right { (w : Wrong) → ¬ (result ≡ Err (ReadingStop.Wrong w)) }
+    ensures right { (w : Mistake) → ¬ (result ≡ Err (ReadingStop.Mistake w)) }
     ensures json { ¬ (result ≡ Err ReadingStop.NotJson) }
 {
     match TextTable::fixed(alloc) {
@@ -96,7 +97,7 @@ fn first_texts(alloc: Global) -> Result<TextTable, ReadingStop>
 fn addons_in(alloc: Global, found: Option<&Value>) -> Result<(Plans, TextTable), ReadingStop>
     ensures { ReadsAs (λ p. read_with p.1 p.0) result (addons_in (option_map (λ v. view v.now) found.entry)) }
 {
-    let items = list_at(Place::Addons, LimitName::Addons, MOST_ADDONS, found)?;
+    let items = list_at(ScriptPart::Addons, LimitName::Addons, MOST_ADDONS, found)?;
     let mut table = first_texts(alloc)?;
     let addons = each_addon(alloc, &mut table, items)?;
     Ok((addons, table))
@@ -107,7 +108,7 @@ fn addons_in(alloc: Global, found: Option<&Value>) -> Result<(Plans, TextTable),
 fn threads_in(alloc: Global, found: Option<&Value>) -> Result<OpLists, ReadingStop>
     ensures { Reads result (threads_in (option_map (λ v. view v.now) found.entry)) }
 {
-    let items = list_at(Place::Threads, LimitName::Threads, MOST_THREADS, found)?;
+    let items = list_at(ScriptPart::Threads, LimitName::Threads, MOST_THREADS, found)?;
     each_thread(alloc, items)
 }
 
@@ -117,7 +118,7 @@ pub(crate) fn script(alloc: Global, value: &Value) -> Result<Script, ReadingStop
     ensures { Reads result (script (view value.now)) }
 {
     if !is_root(value) {
-        return Err(ReadingStop::Wrong(Wrong::Shape(Place::Root)));
+        return Err(ReadingStop::Mistake(Mistake::Shape(ScriptPart::Root)));
     }
     let version = version_in(value.get("version"))?;
     let workers = workers_in(value.get("workers"))?;

@@ -8,7 +8,7 @@ ghost use Rattle.script_read.specs.Reads.{Reads};
 
 use crate::arguments::text;
 use crate::json::{ReadingStop, list_at};
-use napi_types::{Actor, Actors, LimitName, Listed, Place, Wrong};
+use napi_types::{Actor, Actors, LimitName, Listed, Mistake, ScriptPart};
 use serde_json::Value;
 use std::alloc::Global;
 
@@ -105,7 +105,7 @@ fn word_at(threads: usize, workers: usize, s: usize, value: &Value) -> Result<Ac
 {
     match actor_in(threads, workers, value) {
         Some(actor) => Ok(actor),
-        None => Err(ReadingStop::Wrong(Wrong::Shape(Place::Word(s)))),
+        None => Err(ReadingStop::Mistake(Mistake::Shape(ScriptPart::Word(s)))),
     }
 }
 
@@ -142,7 +142,7 @@ pub(crate) fn schedule_in(
         return Ok(None);
     };
     let items = list_at(
-        Place::Schedule,
+        ScriptPart::Schedule,
         LimitName::Schedule,
         MOST_WORDS,
         Some(value),

@@ -9,7 +9,7 @@ ghost use Rattle.script_read.specs.Reads.{Reads};
 use crate::arguments::{mode, release, whole};
 use crate::json::{ReadingStop, list_at};
 use crate::named::if_named;
-use napi_types::{LimitName, Listed, Op, OpList, OpLists, Place, Wrong};
+use napi_types::{LimitName, Listed, Mistake, Op, OpList, OpLists, ScriptPart};
 use serde_json::Value;
 use std::alloc::Global;
 
@@ -80,7 +80,7 @@ fn thread_operation_at(t: usize, o: usize, value: &Value) -> Result<Op, ReadingS
 {
     match thread_operation(value) {
         Some(operation) => Ok(operation),
-        None => Err(ReadingStop::Wrong(Wrong::Shape(Place::ThreadOperation(t, o)))),
+        None => Err(ReadingStop::Mistake(Mistake::Shape(ScriptPart::ThreadOperation(t, o)))),
     }
 }
 
@@ -103,7 +103,7 @@ fn each_operation(alloc: Global, t: usize, items: &[Value]) -> Result<OpList, Re
 fn thread_at(alloc: Global, t: usize, value: &Value) -> Result<OpList, ReadingStop>
     ensures { Reads result (thread_at t (view value.now)) }
 {
-    let place = Place::Thread(t);
+    let place = ScriptPart::Thread(t);
     let items = list_at(place, LimitName::Operations, MOST_OPERATIONS, Some(value))?;
     each_operation(alloc, t, items)
 }

@@ -7,11 +7,11 @@ use Rattle.serde_json.specs.Find.{get}
 use Rattle.napi_types.specs.declared.op.Op.{Op}
 use Rattle.napi_types.specs.declared.lists.AddonPlan.{AddonPlan}
 use Rattle.napi_types.specs.declared.script.Script.{Script}
-use Rattle.napi_types.specs.declared.script.Place.{Place}
-use Rattle.napi_types.specs.declared.script.Wrong.{Wrong}
-use Rattle.napi_types.specs.declared.script.Place.TheVariants as place
+use Rattle.napi_types.specs.declared.script.ScriptPart.{ScriptPart}
+use Rattle.napi_types.specs.declared.script.Mistake.{Mistake}
+use Rattle.napi_types.specs.declared.script.ScriptPart.TheVariants as place
 use Rattle.napi_types.specs.declared.script.LimitName.TheVariants as limit
-use Rattle.napi_types.specs.declared.script.Wrong.TheVariants as wrong
+use Rattle.napi_types.specs.declared.script.Mistake.TheVariants as wrong
 use Rattle.napi_types.specs.plain.Numbers.{is_supported}
 use Rattle.napi_types.specs.plain.Texts.{fixed_texts}
 use Rattle.napi_types.specs.scripts.ScriptAddons.{has_members, addon_at}
@@ -72,9 +72,9 @@ abbrev pub IsScript : List ℕ → Script → Type 0
 IsScript bytes s = (d : Data) × IsJson bytes d × (script d ≡ Ok s)
 
 -- the bytes are a JSON text of a value that is no script, and this is the first thing that is wrong
-abbrev pub IsWrong : List ℕ → Wrong → Type 0
+abbrev pub IsWrong : List ℕ → Mistake → Type 0
 IsWrong bytes w = (d : Data) × IsJson bytes d × (script d ≡ Err w)
 
 -- the bytes are a JSON text of a value in which a part has the wrong form first, and this is the part's path
 abbrev pub HasWrongShape : List ℕ → List ℕ → Type 0
-HasWrongShape bytes text = (p : Place) × (text ≡ path p) × IsWrong bytes (wrong.Shape p)
+HasWrongShape bytes text = (p : ScriptPart) × (text ≡ path p) × IsWrong bytes (wrong.Shape p)

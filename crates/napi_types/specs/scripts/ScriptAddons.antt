@@ -6,7 +6,7 @@ use Rattle.serde_json.specs.Find.{get, as_str, as_object}
 use Rattle.serde_json.specs.Events.{items_len, members_len}
 use Rattle.napi_types.specs.declared.op.Op.{Op}
 use Rattle.napi_types.specs.declared.lists.AddonPlan.{AddonPlan}
-use Rattle.napi_types.specs.declared.script.Place.TheVariants as place
+use Rattle.napi_types.specs.declared.script.ScriptPart.TheVariants as place
 use Rattle.napi_types.specs.declared.script.LimitName.TheVariants as limit
 use Rattle.napi_types.specs.scripts.ScriptOperations.{operation_in}
 use Rattle.napi_types.specs.scripts.ScriptReading.{Reading, ◌>>=◌, formed, when_formed, list_at, Table, Read, read_with, each}

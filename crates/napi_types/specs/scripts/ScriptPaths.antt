@@ -1,7 +1,7 @@
 -- The paths by which a refusal names a part of a script.
 use Rattle.std.specs.Prelude.{ℕ, List, ◌++◌, codes, decimal}
-use Rattle.napi_types.specs.declared.script.Place.{Place}
-use Rattle.napi_types.specs.declared.script.Place.TheVariants as place
+use Rattle.napi_types.specs.declared.script.ScriptPart.{ScriptPart}
+use Rattle.napi_types.specs.declared.script.ScriptPart.TheVariants as place
 
 -- the path of an addon
 abbrev pub addon_path : ℕ → List ℕ
@@ -16,7 +16,7 @@ abbrev pub entry_path : ℕ → ℕ → List ℕ
 entry_path a e = addon_path a ++ codes "/entries/" ++ decimal e
 
 -- the path of a part; the root has a dash
-abbrev pub path : Place → List ℕ
+abbrev pub path : ScriptPart → List ℕ
 path place.Root = codes "-"
 path place.Version = codes "version"
 path place.Workers = codes "workers"

@@ -6,10 +6,10 @@ use Rattle.serde_json.specs.Data.{Data, Items, no_items, item}
 use Rattle.serde_json.specs.Find.{as_array}
 use Rattle.serde_json.specs.Events.{items_len}
 use Rattle.serde_json.specs.Read.{read}
-use Rattle.napi_types.specs.declared.script.Place.{Place}
+use Rattle.napi_types.specs.declared.script.ScriptPart.{ScriptPart}
 use Rattle.napi_types.specs.declared.script.LimitName.{LimitName}
-use Rattle.napi_types.specs.declared.script.Wrong.{Wrong}
-use Rattle.napi_types.specs.declared.script.Wrong.TheVariants as wrong
+use Rattle.napi_types.specs.declared.script.Mistake.{Mistake}
+use Rattle.napi_types.specs.declared.script.Mistake.TheVariants as wrong
 
 -- THE JSON TEXT
 -- the bytes are a JSON text of this value
@@ -23,7 +23,7 @@ IsNoJson bytes = IsUtf8 bytes → read bytes ≡ None
 -- READING
 -- what was read, or the first thing that is wrong
 abbrev pub Reading : Type 0 → Type 0
-Reading A = Result A Wrong
+Reading A = Result A Mistake
 
 -- in a `do` block: the first thing that is wrong, else what follows
 infixl 10 ◌>>=◌
@@ -32,12 +32,12 @@ abbrev pub ◌>>=◌ : {A B : Type 0} → Reading A → (A → Reading B) → Re
 (Err w) >>= f = Err w
 
 -- a part that has its form
-abbrev pub formed : {A : Type 0} → Place → Option A → Reading A
+abbrev pub formed : {A : Type 0} → ScriptPart → Option A → Reading A
 formed place (Some a) = Ok a
 formed place None = Err (wrong.Shape place)
 
 -- a test that a part has its form
-abbrev pub when_formed : Place → Bool → Reading (Unit {0})
+abbrev pub when_formed : ScriptPart → Bool → Reading (Unit {0})
 when_formed place true = Ok tt
 when_formed place false = Err (wrong.Shape place)
 
@@ -46,7 +46,7 @@ abbrev pub within_limit : LimitName → ℕ → ℕ → Reading (Unit {0})
 within_limit which most n = if nat_le n most then Ok tt else Err (wrong.Limit which)
 
 -- the items of an array with at most so many
-unfoldable pub list_at : Place → LimitName → ℕ → Option Data → Reading Items
+unfoldable pub list_at : ScriptPart → LimitName → ℕ → Option Data → Reading Items
 list_at place which most found = do
   ds ← formed place (option_and_then as_array found)
   _ ← within_limit which most (items_len ds)

@@ -4,7 +4,7 @@ use Rattle.std.specs.declared.result.Result.TheVariants.{Ok}
 use Rattle.serde_json.specs.Data.{Data}
 use Rattle.napi_types.specs.declared.op.Op.{Op}
 use Rattle.napi_types.specs.declared.entry.Actor.{Actor}
-use Rattle.napi_types.specs.declared.script.Place.TheVariants as place
+use Rattle.napi_types.specs.declared.script.ScriptPart.TheVariants as place
 use Rattle.napi_types.specs.declared.script.LimitName.TheVariants as limit
 use Rattle.napi_types.specs.scripts.ScriptOperations.{thread_operation}
 use Rattle.napi_types.specs.scripts.ScriptReading.{Reading, ◌>>=◌, formed, list_at, every}

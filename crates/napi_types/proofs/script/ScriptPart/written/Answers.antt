@@ -1,5 +1,5 @@
 use Rattle.std.proofs.Common.{append_assoc}
-use Rattle.napi_types.proofs.script.Place.written.Goals as goal
+use Rattle.napi_types.proofs.script.ScriptPart.written.Goals as goal
 
 pub returns-in-Entry : goal.returns-in-Entry
 returns-in-Entry c = rw c.in-Entry.is (simp append_assoc c.format-in-Entry.ensures.ok)
