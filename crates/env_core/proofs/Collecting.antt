@@ -8,7 +8,7 @@ use Rattle.napi_types.specs.declared.entry.Out.TheVariants as out
 use Rattle.napi_types.specs.declared.status.Status.TheVariants as status
 use Rattle.napi_types.specs.plain.Lists.{has_number}
 use Rattle.napi_types.specs.plain.Replies.{plain}
-use Rattle.napi_types.specs.parts.Attachments.{Attachments, left_on, hangs_on}
+use Rattle.napi_types.specs.parts.Attachments.{Attachments, left_on, is_attached_to}
 use Rattle.napi_types.specs.parts.Book.{Book, due_where}
 use Rattle.napi_types.specs.parts.Frames.{Frame}
 use Rattle.napi_types.specs.parts.Graph.{StoreState, IsLive, number_in, graph_of}
@@ -188,7 +188,8 @@ state-collected s t scopes frames m n rs p ids freed alive i r c e =
 pub collected-answers : (e : Environment) (s t : StoreState) (scopes : HandleScopes) (frames : List Frame) (m n : ReferenceMap) (rs : List TsfnRoot) (p : Option ℕ) (ids freed alive : List ℕ) (count : ℕ)
     → IsState s scopes frames p m rs → AreRoots s scopes m rs p ids → alive ≡ reach_from (graph_of s) (map (number_in s) ids) → FreesOthers s t ids freed alive
     → graph_of t ≡ those_of alive (graph_of s) → count ≡ length (all_but alive (graph_of s)) → n ≡ emptied (λ v. has_number v freed) m
-    → (hung : Attachments) (book : Book) → hung ≡ left_on (is_freed alive) e.attachments → book ≡ due_where (hangs_on (is_freed alive) e.attachments) e.book
+    → (hung : Attachments) (book : Book) → hung ≡ left_on (is_freed alive) e.attachments → book ≡ due_where
+    (is_attached_to (is_freed alive) e.attachments) e.book
     → AnswersInTime (whole_environment e s scopes m rs p) call.Collect (plain status.Ok (out.Unsigned count)) (record (whole_environment e t scopes n rs p) { attachments = hung; book = book })
 collected-answers e s t scopes frames m n rs p ids freed alive count i r are c graph counted empty hung book left due =
     let before : Environment = whole_environment e s scopes m rs p in
@@ -204,7 +205,11 @@ collected-answers e s t scopes frames m n rs p ids freed alive count i r are c g
     ap (references_seen t) empty ∙ seen-emptied s t ids freed alive c m i.referred ∙ ap (λ a. emptied (λ v. not (has_number v a)) (references_seen s m)) reached in
     let pending : pending_seen t p ≡ pending_seen s p = thrown-kept s t ids freed alive c p k.pending in
     let functions : tsfn_roots_seen t rs ≡ tsfn_roots_seen s rs = functions-kept s t ids freed alive c rs k.functions in
-    let alive_here : Environment → List ℕ → Environment = λ x l. record x { attachments = left_on (is_freed l) e.attachments; book = due_where (hangs_on (is_freed l) e.attachments) e.book } in
+    let alive_here : Environment → List ℕ → Environment = λ x l. record x {
+      attachments = left_on (is_freed l) e.attachments;
+      book = due_where
+          (is_attached_to (is_freed l) e.attachments) e.book;
+    } in
     let step : Heap → ReferenceMap → List TsfnRoot → Option ℕ → Environment =
     λ h l f q. record e { heap = h; references = l; attachments = hung; book = book; tsfn_roots = f; pending = q } in
     record {

@@ -5,7 +5,7 @@ use Rattle.std.proofs.lemmas.List.Elements.{All-head, All-tail, All-filter}
 use Rattle.std.proofs.lemmas.List.Folds.{list_any-append}
 use Rattle.std.proofs.lemmas.Bool.{not-true}
 use Rattle.napi_types.specs.plain.Lists.{has_number}
-use Rattle.napi_types.specs.parts.Attachments.{Wrapped, Tagged, Attached, Attachments, left_on, hangs_on}
+use Rattle.napi_types.specs.parts.Attachments.{Wrapped, Tagged, Attached, Attachments, left_on, is_attached_to}
 use Rattle.napi_types.specs.parts.Book.{Book, due_where}
 use Rattle.napi_types.specs.parts.Graph.{StoreState, IsSoundStore, IsLive, number_in}
 use Rattle.napi_types.specs.environment.Collection.{is_freed}
@@ -91,7 +91,7 @@ module _ (s t : StoreState) (ids freed alive : List ℕ) (c : FreesOthers s t id
   freed-same : (id n : ℕ) (o : Option ℕ) → IsLive s id → (has_number id freed && holds_of (hit n) o) ≡ (is_freed alive (number_in s id) && holds_of (hit n) o)
   freed-same id n o live = ap (λ b. b && holds_of (hit n) o) (c.told id live)
 
-  hangs-same : AreOnce a → (n : ℕ) → hangs_on (λ v. has_number v freed) a n ≡ hangs_on (is_freed alive) (attachments_seen s a) n
+  hangs-same : AreOnce a → (n : ℕ) → is_attached_to (λ v. has_number v freed) a n ≡ is_attached_to (is_freed alive) (attachments_seen s a) n
   hangs-same once n =
       let mine : Wrapped → Bool = λ w. has_number w.value freed && holds_of (hit n) w.ticket in
       let seen : Wrapped → Bool = λ w. is_freed alive w.value && holds_of (hit n) w.ticket in
@@ -116,8 +116,10 @@ module _ (s t : StoreState) (ids freed alive : List ℕ) (c : FreesOthers s t id
       ∙ sym (list_any-append (hit n) (filter_map (λ w. w.ticket) (filter (λ w. is_freed alive w.value) (attachments_seen s a).wraps))
       (map (λ t. t.ticket) (filter (λ t. is_freed alive t.value) (attachments_seen s a).tickets)))
 
-  pub due-seen : (book : Book) → AreOnce a → due_where (hangs_on (λ v. has_number v freed) a) book ≡ due_where (hangs_on (is_freed alive) (attachments_seen s a)) book
-  due-seen book once = due_where-same (hangs_on (λ v. has_number v freed) a) (hangs_on (is_freed alive) (attachments_seen s a)) book (hangs-same once)
+  pub due-seen : (book : Book) → AreOnce a → due_where (is_attached_to (λ v. has_number v freed) a) book ≡ due_where
+      (is_attached_to (is_freed alive) (attachments_seen s a)) book
+  due-seen book once = due_where-same (is_attached_to (λ v. has_number v freed) a) (is_attached_to (is_freed alive) (attachments_seen s a)) book
+      (hangs-same once)
 
   -- WHAT IS LEFT
   live-left : {A : Type 0} (value : A → ℕ) (xs : List A) → All (λ x. IsLive s (value x)) xs → All (λ x. IsLive t (value x)) (filter (λ x. not (has_number (value x) freed)) xs)

@@ -10,7 +10,7 @@ use Rattle.std.proofs.lemmas.Bool.Decides.{nat_tests}
 use Rattle.std.proofs.lemmas.Bool.{or_right}
 use Rattle.napi_types.specs.declared.ids.ValueId.{ValueId}
 use Rattle.napi_types.specs.plain.Lists.{found, has, has_number, as_map}
-use Rattle.napi_types.specs.parts.Attachments.{Attachments, Wrapped, Tagged, Attached, tickets_of, tickets_where, hangs_on, left_on}
+use Rattle.napi_types.specs.parts.Attachments.{Attachments, Wrapped, Tagged, Attached, tickets_of, tickets_where, is_attached_to, left_on}
 use Rattle.napi_types.specs.parts.Book.{Book, due_where}
 use Rattle.napi_types.proofs.plain.Found.{IsRising, same-tells, same-self, apart-above, has-found, found-kept, rising-as_map}
 use Rattle.napi_types.proofs.plain.Maps.{swapped, joined}
@@ -187,15 +187,16 @@ in_both n test a =
     ∙ ap (λ b. b || has_number n (map (λ t. t.ticket) (filter (λ t. test t.value) a.tickets))) (in_wraps n test a.wraps)
     ∙ ap (λ b. list_any (λ w. test w.value && has_number n (option_to_list w.ticket)) a.wraps || b) (in_tickets n test a.tickets)
 
-pub hangs_on-left_on : (n : ℕ) (p q : ℕ → Bool) (a : Attachments) → hangs_on (λ v. p v || q v) a n ≡ (hangs_on p a n || hangs_on q (left_on p a) n)
-hangs_on-left_on n p q a =
+pub is_attached_to-left_on : (n : ℕ) (p q : ℕ → Bool) (a : Attachments)
+    → is_attached_to (λ v. p v || q v) a n ≡ (is_attached_to p a n || is_attached_to q (left_on p a) n)
+is_attached_to-left_on n p q a =
     in_both n (λ v. p v || q v) a
     ∙ ap (λ b. b || list_any (λ t. (p t.value || q t.value) && (t.ticket == n)) a.tickets) (any-parted (λ w. p w.value) (λ w. q w.value) (λ w. has_number n (option_to_list w.ticket)) a.wraps)
     ∙ ap (λ b. (list_any (λ w. p w.value && has_number n (option_to_list w.ticket)) a.wraps || list_any (λ w. q w.value && has_number n (option_to_list w.ticket)) (left_on p a).wraps) || b)
     (any-parted (λ t. p t.value) (λ t. q t.value) (λ t. t.ticket == n) a.tickets)
     ∙ crossed (list_any (λ w. p w.value && has_number n (option_to_list w.ticket)) a.wraps) (list_any (λ w. q w.value && has_number n (option_to_list w.ticket)) (left_on p a).wraps)
     (list_any (λ t. p t.value && (t.ticket == n)) a.tickets) (list_any (λ t. q t.value && (t.ticket == n)) (left_on p a).tickets)
-    ∙ sym (ap (λ b. b || hangs_on q (left_on p a) n) (in_both n p a) ∙ ap (λ b. (list_any (λ w. p w.value && has_number n (option_to_list w.ticket)) a.wraps || list_any (λ t. p t.value && (t.ticket == n)) a.tickets) || b) (in_both n q (left_on p a)))
+    ∙ sym (ap (λ b. b || is_attached_to q (left_on p a) n) (in_both n p a) ∙ ap (λ b. (list_any (λ w. p w.value && has_number n (option_to_list w.ticket)) a.wraps || list_any (λ t. p t.value && (t.ticket == n)) a.tickets) || b) (in_both n q (left_on p a)))
   where
     crossed : (b c d e : Bool) → ((b || c) || (d || e)) ≡ ((b || d) || (c || e))
     crossed true c d e = refl
@@ -203,8 +204,8 @@ hangs_on-left_on n p q a =
     crossed false true false e = refl
     crossed false false d e = refl
 
-pub hangs_on-same : (n : ℕ) (p q : ℕ → Bool) → ((v : ℕ) → p v ≡ q v) → (a : Attachments) → hangs_on p a n ≡ hangs_on q a n
-hangs_on-same n p q same a = in_both n p a ∙ ap (λ b. b || list_any (λ t. p t.value && (t.ticket == n)) a.tickets) (any-same (λ w. p w.value && has_number n (option_to_list w.ticket)) _ (λ w. ap (λ b. b && has_number n (option_to_list w.ticket)) (same w.value)) a.wraps)
+pub is_attached_to-same : (n : ℕ) (p q : ℕ → Bool) → ((v : ℕ) → p v ≡ q v) → (a : Attachments) → is_attached_to p a n ≡ is_attached_to q a n
+is_attached_to-same n p q same a = in_both n p a ∙ ap (λ b. b || list_any (λ t. p t.value && (t.ticket == n)) a.tickets) (any-same (λ w. p w.value && has_number n (option_to_list w.ticket)) _ (λ w. ap (λ b. b && has_number n (option_to_list w.ticket)) (same w.value)) a.wraps)
     ∙ ap (λ b. list_any (λ w. q w.value && has_number n (option_to_list w.ticket)) a.wraps || b) (any-same (λ t. p t.value && (t.ticket == n)) _ (λ t. ap (λ b. b && (t.ticket == n)) (same t.value)) a.tickets) ∙ sym (in_both n q a)
   where
     any-same : {A : Type 0} (f g : A → Bool) → ((x : A) → f x ≡ g x) → (xs : List A) → list_any f xs ≡ list_any g xs
@@ -230,16 +231,18 @@ left-more values x a now new was is =
     is ∙ ap (left_on (λ v. v == x.0)) was ∙ left_on-left_on (is_one_of values) (λ v. v == x.0) a ∙ left_on-same (λ v. is_one_of values v || (v == x.0)) (is_one_of (values ++ x ∷ [])) (among-more values x) a
 
 pub hangs-more : (n : ℕ) (values : List ValueId) (x : ValueId) (a now : Attachments) → now ≡ left_on (is_one_of values) a
-    → (hangs_on (is_one_of values) a n || has_number n (tickets_of now x.0)) ≡ hangs_on (is_one_of (values ++ x ∷ [])) a n
+    → (is_attached_to (is_one_of values) a n || has_number n (tickets_of now x.0)) ≡ is_attached_to (is_one_of (values ++ x ∷ [])) a n
 hangs-more n values x a now was =
-    ap (λ b. hangs_on (is_one_of values) a n || has_number n (tickets_of b x.0)) was ∙ sym (hangs_on-left_on n (is_one_of values) (λ v. v == x.0) a)
-    ∙ hangs_on-same n (λ v. is_one_of values v || (v == x.0)) (is_one_of (values ++ x ∷ [])) (among-more values x) a
+    ap (λ b. is_attached_to (is_one_of values) a n || has_number n (tickets_of b x.0)) was ∙ sym (is_attached_to-left_on n (is_one_of values) (λ v. v == x.0) a)
+    ∙ is_attached_to-same n (λ v. is_one_of values v || (v == x.0)) (is_one_of (values ++ x ∷ [])) (among-more values x) a
 
-pub due-more : (values : List ValueId) (x : ValueId) (a now : Attachments) (book between after : Book) → now ≡ left_on (is_one_of values) a → between ≡ due_where (hangs_on (is_one_of values) a) book
-    → after ≡ due_where (λ n. has_number n (tickets_of now x.0)) between → after ≡ due_where (hangs_on (is_one_of (values ++ x ∷ [])) a) book
+pub due-more : (values : List ValueId) (x : ValueId) (a now : Attachments) (book between after : Book) → now ≡ left_on (is_one_of values) a
+    → between ≡ due_where (is_attached_to (is_one_of values) a) book
+    → after ≡ due_where (λ n. has_number n (tickets_of now x.0)) between → after ≡ due_where (is_attached_to (is_one_of (values ++ x ∷ [])) a) book
 due-more values x a now book between after was due is =
-    is ∙ ap (due_where (λ n. has_number n (tickets_of now x.0))) due ∙ due_where-due_where (hangs_on (is_one_of values) a) (λ n. has_number n (tickets_of now x.0)) book
-    ∙ due_where-same (λ n. hangs_on (is_one_of values) a n || has_number n (tickets_of now x.0)) (hangs_on (is_one_of (values ++ x ∷ [])) a) book (λ n. hangs-more n values x a now was)
+    is ∙ ap (due_where (λ n. has_number n (tickets_of now x.0))) due ∙ due_where-due_where (is_attached_to (is_one_of values) a)
+    (λ n. has_number n (tickets_of now x.0)) book
+    ∙ due_where-same (λ n. is_attached_to (is_one_of values) a n || has_number n (tickets_of now x.0)) (is_attached_to (is_one_of (values ++ x ∷ [])) a) book (λ n. hangs-more n values x a now was)
 
 -- before the first
 pub left_on-none : (a : Attachments) → left_on (is_one_of []) a ≡ a
@@ -249,8 +252,8 @@ left_on-none a = left_on-parts (left_on (is_one_of []) a) a (all a.wraps) (all a
     all [] = refl
     all (x ∷ xs) = ap (λ ys. x ∷ ys) (all xs)
 
-pub due-none : (a : Attachments) (book : Book) → due_where (hangs_on (is_one_of []) a) book ≡ book
-due-none a book = due_where-none (hangs_on (is_one_of []) a) book (λ n. in_both n (is_one_of []) a ∙ ap (λ b. b || list_any (λ t. false) a.tickets) (none a.wraps) ∙ none a.tickets)
+pub due-none : (a : Attachments) (book : Book) → due_where (is_attached_to (is_one_of []) a) book ≡ book
+due-none a book = due_where-none (is_attached_to (is_one_of []) a) book (λ n. in_both n (is_one_of []) a ∙ ap (λ b. b || list_any (λ t. false) a.tickets) (none a.wraps) ∙ none a.tickets)
   where
     none : {A : Type 0} (xs : List A) → list_any (λ x. false) xs ≡ false
     none [] = refl
@@ -261,21 +264,23 @@ pub take-next : (values : List ValueId) (i : ℕ) (d : ValueId) → i < length v
 take-next values i d within = rw add-one (take-suc values i d within)
 
 -- the tickets of some of the values are among those of all
-hangs-all : (n : ℕ) (ys zs values : List ValueId) (a : Attachments) → ys ++ zs ≡ values → hangs_on (is_one_of ys) a n ≡ true → hangs_on (is_one_of values) a n ≡ true
+hangs-all : (n : ℕ) (ys zs values : List ValueId) (a : Attachments) → ys ++ zs ≡ values → is_attached_to (is_one_of ys) a n ≡ true
+    → is_attached_to (is_one_of values) a n ≡ true
 hangs-all n ys zs values a all is =
-    hangs_on-same n (is_one_of values) (λ v. is_one_of ys v || is_one_of zs v) parted a ∙ hangs_on-left_on n (is_one_of ys) (is_one_of zs) a ∙ ap (λ b. b || hangs_on (is_one_of zs) (left_on (is_one_of ys) a) n) is
+    is_attached_to-same n (is_one_of values) (λ v. is_one_of ys v || is_one_of zs v) parted a ∙ is_attached_to-left_on n (is_one_of ys) (is_one_of zs) a ∙ ap (λ b. b || is_attached_to (is_one_of zs) (left_on (is_one_of ys) a) n) is
   where
     parted : (v : ℕ) → is_one_of values v ≡ (is_one_of ys v || is_one_of zs v)
     parted v = ap (λ vs. is_one_of vs v) (sym all) ∙ ap (λ ns. has_number v ns) (map-append (λ f. f.0) ys zs) ∙ list_any-append (λ m. m == v) (map (λ f. f.0) ys) (map (λ f. f.0) zs)
 
 pub given-value : (values : List ValueId) (i : ℕ) (d : ValueId) → i < length values → (a now : Attachments) (book between : Book) → now ≡ left_on (is_one_of (take i values)) a
-    → between ≡ due_where (hangs_on (is_one_of (take i values)) a) book → AreGiven (tickets_where (is_one_of values) a) book → AreGiven (tickets_of now (get_or values i d).0) between
+    → between ≡ due_where (is_attached_to (is_one_of (take i values)) a) book → AreGiven (tickets_where (is_one_of values) a) book → AreGiven
+    (tickets_of now (get_or values i d).0) between
 given-value values i d within a now book between was due given =
     let P : Book → Type 0 = AreGiven (tickets_of now (get_or values i d).0) in
-    subst P (sym due) (given-due (tickets_of now (get_or values i d).0) (hangs_on (is_one_of (take i values)) a) book
+    subst P (sym due) (given-due (tickets_of now (get_or values i d).0) (is_attached_to (is_one_of (take i values)) a) book
     (given-among (tickets_where (is_one_of values) a) (tickets_of now (get_or values i d).0) book (λ n is. one n is) given))
   where
-    one : (n : ℕ) → has_number n (tickets_of now (get_or values i d).0) ≡ true → hangs_on (is_one_of values) a n ≡ true
+    one : (n : ℕ) → has_number n (tickets_of now (get_or values i d).0) ≡ true → is_attached_to (is_one_of values) a n ≡ true
     one n is =
         hangs-all n (take (i + 1) values) (drop (i + 1) values) values a (take-append-drop (i + 1) values)
-        (ap (λ vs. hangs_on (is_one_of vs) a n) (take-next values i d within) ∙ sym (hangs-more n (take i values) (get_or values i d) a now was) ∙ ap (λ b. hangs_on (is_one_of (take i values)) a n || b) is ∙ or_right (hangs_on (is_one_of (take i values)) a n) true refl)
+        (ap (λ vs. is_attached_to (is_one_of vs) a n) (take-next values i d within) ∙ sym (hangs-more n (take i values) (get_or values i d) a now was) ∙ ap (λ b. is_attached_to (is_one_of (take i values)) a n || b) is ∙ or_right (is_attached_to (is_one_of (take i values)) a n) true refl)

@@ -2,7 +2,7 @@
 ghost use Rattle.std.specs.Prelude.{◌≡◌, ◌==◌, ◌+◌, ◌<◌, ◌≤◌, None, false, IfOk, IfSome, OnOk, OnErr, option_map};
 ghost use Rattle.std.specs.Option.{option_and_then};
 ghost use Rattle.napi_types.specs.plain.Lists.{has, has_number};
-ghost use Rattle.napi_types.specs.parts.Attachments.{no_attachments, wrap_of, tag_of as tag_at, with_wrap, without_wrap, with_tag, with_attached, tickets_of, tickets_where, hangs_on, left_on};
+ghost use Rattle.napi_types.specs.parts.Attachments.{no_attachments, wrap_of, tag_of as tag_at, with_wrap, without_wrap, with_tag, with_attached, tickets_of, tickets_where, is_attached_to, left_on};
 ghost use Rattle.napi_types.specs.parts.Book.{due_where};
 ghost use Rattle.wrap_tag.specs.Wraps.{AreGiven, is_one_of};
 
@@ -163,7 +163,7 @@ impl Wraps {
     pub fn gone_all(&mut self, values: &[ValueId], book: &mut Book)
         requires { AreGiven (tickets_where (is_one_of values.now) self.old.attachments) book.old.book }
         ensures forgotten { self.new.attachments ≡ left_on (is_one_of values.now) self.old.attachments }
-        ensures due { book.new.book ≡ due_where (hangs_on (is_one_of values.now) self.old.attachments) book.old.book }
+        ensures due { book.new.book ≡ due_where (is_attached_to (is_one_of values.now) self.old.attachments) book.old.book }
         ensures spare { self.old.spare ≤ self.new.spare }
         ensures room { book.old.spare ≤ book.new.spare }
     {

@@ -1,6 +1,6 @@
 //! Wraps, type tags and finalizers of values.
 ghost use Rattle.std.specs.Prelude.{◌≡◌, ◌<◌, ◌^◌, None, length, option_map, IfSome, IsSome, OnOk, OnErr};
-ghost use Rattle.napi_types.specs.parts.Attachments.{wrap_of, wrap_ticket, tag_of as tag_at, with_wrap, without_wrap, with_tag, hangs_on, left_on};
+ghost use Rattle.napi_types.specs.parts.Attachments.{wrap_of, wrap_ticket, tag_of as tag_at, with_wrap, without_wrap, with_tag, is_attached_to, left_on};
 ghost use Rattle.napi_types.specs.parts.Book.{due_where};
 ghost use Rattle.napi_types.specs.environment.ExternalCalls.{attached_if};
 ghost use Rattle.napi_types.specs.environment.Registering.{registered_only};
@@ -131,7 +131,7 @@ impl Registry {
     pub fn gone_all(&mut self, values: &[ValueId])
         ensures { self.new.parts ≡ record self.old.parts {
           attachments = left_on (is_one_of values.now) self.old.parts.attachments;
-          book = due_where (hangs_on (is_one_of values.now) self.old.parts.attachments) self.old.parts.book;
+          book = due_where (is_attached_to (is_one_of values.now) self.old.parts.attachments) self.old.parts.book;
         } }
     {
         self.wraps.gone_all(values, &mut self.book);

@@ -17,7 +17,7 @@ use Rattle.napi_types.specs.declared.entry.Why.{Why}
 use Rattle.napi_types.specs.declared.ids.HandleId.{HandleId}
 use Rattle.napi_types.specs.plain.Phases.{next_phase}
 use Rattle.napi_types.specs.plain.Replies.{accepts}
-use Rattle.napi_types.specs.parts.Attachments.{Attachments, hangs_on, left_on}
+use Rattle.napi_types.specs.parts.Attachments.{Attachments, is_attached_to, left_on}
 use Rattle.napi_types.specs.parts.Book.{Book, Registration, registration_at, is_at, is_registered, is_owed, made_due, made_withdrawn, moved, moved_at, due_where, new_ticket, with_registration, begun_in, may_begin_in, cause_at}
 use Rattle.napi_types.specs.parts.Frames.{caller_of, cause_of, duty_of}
 use Rattle.napi_types.specs.parts.Hooks.{Hook, is_hook, hook_ticket, last_hook, without_hook}
@@ -171,9 +171,10 @@ unhooking-hooked e (Some t) waits h = by (is_at is_registered e.book t) refl
 collected-hooked : (e : Environment) (alive : List ℕ) → IsHooked e → IsHooked (collected alive e)
 collected-hooked e alive h =
     let freed : ℕ → Bool = is_freed alive in
-    let due : Environment = record e { book = due_where (hangs_on freed e.attachments) e.book } in
-    let finalizers : (n : ℕ) → hangs_on freed e.attachments n ≡ true → Finalizes e.book n = tickets_where-holds (Finalizes e.book) e.attachments (attached e h) freed in
-    let fallen : IsHooked due = hooked-book e _ (finalizers-go e.phase (moved made_due) (λ r. refl) (hangs_on freed e.attachments) e.book finalizers) h in
+    let due : Environment = record e { book = due_where (is_attached_to freed e.attachments) e.book } in
+    let finalizers : (n : ℕ) → is_attached_to freed e.attachments n ≡ true → Finalizes e.book n = tickets_where-holds (Finalizes e.book) e.attachments
+    (attached e h) freed in
+    let fallen : IsHooked due = hooked-book e _ (finalizers-go e.phase (moved made_due) (λ r. refl) (is_attached_to freed e.attachments) e.book finalizers) h in
     unchanged _ (collected alive e) refl refl
     (hooked-attachments due (left_on freed e.attachments) (HoldsAttached-left_on (Finalizes due.book) freed e.attachments (attached due fallen)) fallen)
 

@@ -7,7 +7,7 @@ use Rattle.napi_types.specs.declared.entry.Out.TheVariants as out
 use Rattle.napi_types.specs.declared.entry.What.TheVariants as what
 use Rattle.napi_types.specs.declared.status.Status.TheVariants as status
 use Rattle.napi_types.specs.plain.Replies.{plain}
-use Rattle.napi_types.specs.parts.Attachments.{left_on, hangs_on}
+use Rattle.napi_types.specs.parts.Attachments.{left_on, is_attached_to}
 use Rattle.napi_types.specs.parts.Book.{due_where}
 use Rattle.napi_types.specs.parts.Reach.{numbers}
 use Rattle.napi_types.specs.parts.References.{emptied}
@@ -29,7 +29,7 @@ pub record Collects (old new : Environment) (x : Entry) : Type 0 where
   -- wraps, type tags and attached finalizers of the others are gone, and all others stay as they were
   pub attachments : new.attachments ≡ left_on (is_freed (reach old)) old.attachments
   -- the registered tickets that hung on a freed value are due, and every other ticket stays as it was
-  pub book : new.book ≡ due_where (hangs_on (is_freed (reach old)) old.attachments) old.book
+  pub book : new.book ≡ due_where (is_attached_to (is_freed (reach old)) old.attachments) old.book
   -- it is accepted, and tells how many values it freed
   pub told : x.reply ≡ plain status.Ok (out.Unsigned (length (all_but (reach old) old.heap.values)))
 

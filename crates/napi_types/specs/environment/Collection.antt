@@ -5,7 +5,7 @@ use Rattle.napi_types.specs.declared.call.Call.TheVariants as call
 use Rattle.napi_types.specs.declared.entry.Out.TheVariants as out
 use Rattle.napi_types.specs.plain.Lists.{has_number}
 use Rattle.napi_types.specs.plain.Replies.{Answer, accepts}
-use Rattle.napi_types.specs.parts.Attachments.{left_on, hangs_on}
+use Rattle.napi_types.specs.parts.Attachments.{left_on, is_attached_to}
 use Rattle.napi_types.specs.parts.Book.{due_where}
 use Rattle.napi_types.specs.parts.References.{emptied}
 use Rattle.napi_types.specs.parts.Values.{those_of, all_but}
@@ -24,7 +24,7 @@ collected alive e = record e {
   heap = record (e.heap) { values = those_of alive e.heap.values };
   references = emptied (is_freed alive) e.references;
   attachments = left_on (is_freed alive) e.attachments;
-  book = due_where (hangs_on (is_freed alive) e.attachments) e.book;
+  book = due_where (is_attached_to (is_freed alive) e.attachments) e.book;
 }
 
 -- `collect` keeps what the roots reach, and tells how many values it freed

@@ -95,8 +95,8 @@ abbrev pub tickets_of : Attachments → ℕ → List ℕ
 tickets_of a v = tickets_where (λ n. n == v) a
 
 -- a ticket is that of a value that is freed
-abbrev pub hangs_on : (ℕ → Bool) → Attachments → ℕ → Bool
-hangs_on freed a ticket = has_number ticket (tickets_where freed a)
+abbrev pub is_attached_to : (ℕ → Bool) → Attachments → ℕ → Bool
+is_attached_to freed a ticket = has_number ticket (tickets_where freed a)
 
 -- what is left as these values are freed: all that is attached to the others
 abbrev pub left_on : (ℕ → Bool) → Attachments → Attachments

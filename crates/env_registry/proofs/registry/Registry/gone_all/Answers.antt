@@ -1,4 +1,4 @@
-use Rattle.napi_types.specs.parts.Attachments.{left_on, hangs_on}
+use Rattle.napi_types.specs.parts.Attachments.{left_on, is_attached_to}
 use Rattle.napi_types.specs.parts.Book.{made_due}
 use Rattle.wrap_tag.specs.Wraps.{is_one_of}
 use Rattle.env_registry.proofs.Keeping.{given-freed, kept-left, kept-moved}
@@ -14,4 +14,5 @@ invariant_of-self c =
     let s = c.self.inside in
     let freed = is_one_of c.args.values.now in
     rw (c.gone_all.ensures.forgotten, c.gone_all.ensures.due)
-    (kept-moved (left_on freed s.wraps.attachments) s.book.book made_due (hangs_on freed s.wraps.attachments) (kept-left s.wraps.attachments s.book.book freed c.self.invariant))
+    (kept-moved (left_on freed s.wraps.attachments) s.book.book made_due (is_attached_to freed s.wraps.attachments)
+    (kept-left s.wraps.attachments s.book.book freed c.self.invariant))

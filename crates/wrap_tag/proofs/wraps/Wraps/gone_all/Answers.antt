@@ -1,6 +1,6 @@
 use Rattle.std.proofs.Common.{◌≡◌, ◌∙◌, ◌+◌, take, get_or, sym, ap, arith}
 use Rattle.std.proofs.lemmas.List.{take_all}
-use Rattle.napi_types.specs.parts.Attachments.{left_on, hangs_on}
+use Rattle.napi_types.specs.parts.Attachments.{left_on, is_attached_to}
 use Rattle.napi_types.specs.parts.Book.{due_where}
 use Rattle.wrap_tag.specs.Wraps.{is_one_of}
 use Rattle.wrap_tag.proofs.FreeingRows.{left_on-none, due-none, take-next, given-value, left-more, due-more}
@@ -22,7 +22,7 @@ loop-value-preserved c =
           ∙ ap (λ vs. left_on (is_one_of vs) c.args.self.now.attachments) (sym next);
       due = due-more (take c.loop-value.value-index c.args.values.now) (get_or c.args.values.now c.loop-value.value-index (record { 0 = 0 })) c.args.self.now.attachments c.loop-value.self.attachments c.args.book.now.book c.loop-value.book.book _
           c.loop-value.invariant.forgotten c.loop-value.invariant.due c.gone.ensures.due
-          ∙ ap (λ vs. due_where (hangs_on (is_one_of vs) c.args.self.now.attachments) c.args.book.now.book) (sym next);
+          ∙ ap (λ vs. due_where (is_attached_to (is_one_of vs) c.args.self.now.attachments) c.args.book.now.book) (sym next);
       spare = omega arith;
       room = omega arith;
     }
@@ -33,4 +33,5 @@ returns-clause-forgotten c =
 
 pub returns-clause-due : goal.returns-clause-due
 returns-clause-due c =
-    c.loop-value.invariant.due ∙ ap (λ vs. due_where (hangs_on (is_one_of vs) c.args.self.now.attachments) c.args.book.now.book) (take_all c.loop-value.value-index c.args.values.now c.loop-value-test.false)
+    c.loop-value.invariant.due ∙ ap (λ vs. due_where (is_attached_to (is_one_of vs) c.args.self.now.attachments) c.args.book.now.book)
+    (take_all c.loop-value.value-index c.args.values.now c.loop-value-test.false)
