@@ -246,7 +246,7 @@ shared-owes {ps} {old} {all} {f} {a} i c unended is = record {
       let r = x.joined.recorded in
       let D : Ask → Type 0 = λ b. Asks s all.registers old.core.env.frames b in
       record {
-        front = x.front;
+        prefix = x.prefix;
         rest = x.rest;
         history_is = x.history_is;
         others = x.others;

@@ -110,13 +110,13 @@ stopped-ends {ps} {old} {all} {f} {a} i idle unended below c t w new is reason s
   some = in-some i;
   idle = idle;
   free = λ hub. unended;
-  may = λ s front firsts of rec.
-      let m : Machine = machine_of s.limits old.core (hub_along (opening_of s).hub front) front in (
+  may = λ s prefix firsts of rec.
+      let m : Machine = machine_of s.limits old.core (hub_along (opening_of s).hub prefix) prefix in (
         refl,
         a,
         asks-in i s of,
         ap (λ x. may_cut m a x) reason ∙ ap (λ b. may_cut m b (why_stopped t)) (sym is)
-            ∙ stopped-may s old.core new (hub_along (opening_of s).hub front) front c t rec.recorded.limit (in-calls i c is below) stops,
+            ∙ stopped-may s old.core new (hub_along (opening_of s).hub prefix) prefix c t rec.recorded.limit (in-calls i c is below) stops,
         λ owed. absurd (owed unended),
       );
 }
@@ -141,7 +141,14 @@ spent-ends ps old all f sound idle unended top spent =
     let would = some-ask ps all.registers f in
     let i : InFrame ps old.core.env all.registers f would.0 = record { sound = sound; top = top; asked = would.1 } in
     let all_made : (asks_made old.core.env.frames == most_asks) ≡ true = ap (λ gs. asks_made gs == most_asks) (in-stands i) ∙ ap (λ k. k == most_asks) spent in
-    record { sound = sound; some = in-some i; idle = idle; free = λ hub. unended; may = λ s front firsts of rec. (refl, would.0, asks-in i s of, all_made, λ owed. absurd (owed unended)) }
+    record {
+      sound = sound;
+      some = in-some i;
+      idle = idle;
+      free = λ hub. unended;
+      may = λ s prefix firsts of rec.
+          (refl, would.0, asks-in i s of, all_made, λ owed. absurd (owed unended));
+    }
 
 -- ITS CUT IS OWED
 -- a run that has nothing pending at the hub has no end pending of the frame of a duty of the hub
@@ -165,8 +172,8 @@ owed-ends ps old all how runs unowed owed =
       some = ends.stands;
       idle = unowed-idle old unowed;
       free = λ hub. let no : true ≡ false = sym hub ∙ unowed-local old how unowed owed in cc;
-      may = λ s front firsts of rec.
-          let m : Machine = machine_of s.limits old.core (hub_along (opening_of s).hub front) front in
+      may = λ s prefix firsts of rec.
+          let m : Machine = machine_of s.limits old.core (hub_along (opening_of s).hub prefix) prefix in
           let O : Option FrameEnd → Type 0 = λ o. IfSome o (MayEndSo s all.registers m) in
           by s all.registers m how (unowed-local old how unowed owed) ends.leaves (subst O owed rec.owed.end);
     }

@@ -144,8 +144,8 @@ pub record MayEndInScripts (ps : List Plan) (old : Run) (all : AddonStates) (v :
   pub some : old.core.env.frames ≢ []
   pub idle : old.core.awaited ≡ None
   pub free : is_hub_duty (duty_of old.core.env.frames) ≡ true → old.ending ≡ None
-  pub may : (s : Setting) (front : List Entry) (firsts : List (List DueInfo)) → IsOf s ps old.core → IsRecordedWithPending s old front all firsts
-      → MayEndAs s all.registers (machine_of s.limits old.core (hub_along (opening_of s).hub front) front) old.ending v how
+  pub may : (s : Setting) (prefix : List Entry) (firsts : List (List DueInfo)) → IsOf s ps old.core → IsRecordedWithPending s old prefix all firsts
+      → MayEndAs s all.registers (machine_of s.limits old.core (hub_along (opening_of s).hub prefix) prefix) old.ending v how
 
 -- IT ENDS
 ended-turn : (ps : List Plan) (old new : Run) (all now : AddonStates) (v : Option HandleId) (how : FrameEnd) → MayEndInScripts ps old all v how
@@ -165,13 +165,14 @@ ended-turn ps old new all now v how i local here same =
     (subst U (sym k.frames) (caller-touched ps all.registers now.registers e.frames (tail e.frames) change.entry.reply i.some here.told))
     (subst P (sym (begins-none e i.some)) (seen-same all.seen now.seen same))
     (λ history s firsts of f.
-    let R : Core → Type 0 = λ c. RecordsOwn s c (hub_along (opening_of s).hub f.front) f.front now firsts in
+    let R : Core → Type 0 = λ c. RecordsOwn s c (hub_along (opening_of s).hub f.prefix) f.prefix now firsts in
     let ended : R new.core =
-    subst R (sym here.ended) (ended-goes i.sound v cut now here.told same s (hub_along (opening_of s).hub f.front) f.front firsts of f.joined.recorded
-    (ends-next s all.registers (machine_of s.limits old.core (hub_along (opening_of s).hub f.front) f.front) (last_actor None (weave old.core.journal f.front)) old.ending v how
-    i.some local f.own (i.may s f.front firsts of f.joined))) in
+    subst R (sym here.ended) (ended-goes i.sound v cut now here.told same s (hub_along (opening_of s).hub f.prefix) f.prefix firsts of f.joined.recorded
+    (ends-next s all.registers (machine_of s.limits old.core (hub_along (opening_of s).hub f.prefix) f.prefix)
+    (last_actor None (weave old.core.journal f.prefix)) old.ending v how
+    i.some local f.own (i.may s f.prefix firsts of f.joined))) in
     record {
-      front = f.front;
+      prefix = f.prefix;
       rest = f.rest;
       history_is = f.history_is;
       others = f.others;
@@ -196,7 +197,7 @@ owed-end ps old all v how i hub = record {
   owes = ap (λ b. is_some old.core.awaited || b) hub ∙ either (is_some old.core.awaited);
   same = refl;
   goes = λ history s firsts of f. record {
-    front = f.front;
+    prefix = f.prefix;
     rest = f.rest;
     history_is = f.history_is;
     others = f.others;
@@ -204,7 +205,8 @@ owed-end ps old all v how i hub = record {
       recorded = f.joined.recorded;
       owed = record {
         call = f.joined.owed.call;
-        end = may-end s all.registers (machine_of s.limits old.core (hub_along (opening_of s).hub f.front) f.front) old.ending v how hub (i.may s f.front firsts of f.joined);
+        end = may-end s all.registers (machine_of s.limits old.core (hub_along (opening_of s).hub f.prefix) f.prefix) old.ending v how hub
+            (i.may s f.prefix firsts of f.joined);
       };
     };
     own = λ none. (let no : Some how ≡ None = none in cc);
@@ -257,7 +259,7 @@ left-may {ps} {old} {all} {f} v i idle unended below = record {
   some = in-some i;
   idle = idle;
   free = λ hub. unended;
-  may = λ s front firsts of rec. (asks-in i s of, in-asks i below, unended);
+  may = λ s prefix firsts of rec. (asks-in i s of, in-asks i below, unended);
 }
 
 -- WHAT ENDED

@@ -27,11 +27,11 @@ use Rattle.napi_types.specs.runs.Machine.{Machine}
 use Rattle.napi_types.specs.runs.Setting.{Setting, opening_of}
 use Rattle.napi_types.specs.runs.Step.{may_cut}
 use Rattle.napi_types.specs.all_runs.Joined.{AreJoined, GoesOnJoined, with_others, gone_on}
-use Rattle.napi_types.proofs.hub.GrowingHistories.{fronts-replay}
+use Rattle.napi_types.proofs.hub.GrowingHistories.{prefixes-replay}
 use Rattle.napi_types.proofs.hub.OthersKeep.{others-keep-hub}
 use Rattle.napi_types.proofs.hub.Occupied.{calls-stay-pressed}
 use Rattle.napi_types.proofs.all_runs.Joining.{others-join}
-use Rattle.napi_types.proofs.all_runs.LedHubs.{fronts-join}
+use Rattle.napi_types.proofs.all_runs.LedHubs.{prefixes-join}
 use Rattle.env_core.specs.Core.{Core}
 use Rattle.shared_hub.specs.HubStates.{HubSeen, AddsEntry}
 use Rattle.env_loop.specs.declared.run.FrameEnd.{FrameEnd}
@@ -41,17 +41,18 @@ use Rattle.env_loop.specs.RecordedRuns.{Run, FitsHub}
 use Rattle.env_loop.specs.FollowedRuns.{MayEndSo, PendingIsAsked, IsRecordedWithPending, taken_in, FittingRunsStand, OthersAreTakenIn, OthersMayAdd}
 
 -- THE RUN
-module _ (s : Setting) (core : Core) (front rest : List Entry) (all : AddonStates) (firsts : List (List DueInfo))
-    (r : IsRecorded s core (hub_along (opening_of s).hub front) front all firsts) (g : GoesOnJoined s r.asks core.journal front rest)
-    (k : GoesOnBehind s.limits.history s.threads s.workers front rest (hub_along (opening_of s).hub (front ++ rest))) where
-  taken : IsRecorded s (record core { position = length (front ++ rest) }) (hub_along (opening_of s).hub (front ++ rest)) (front ++ rest) all firsts
+module _ (s : Setting) (core : Core) (prefix rest : List Entry) (all : AddonStates) (firsts : List (List DueInfo))
+    (r : IsRecorded s core (hub_along (opening_of s).hub prefix) prefix all firsts) (g : GoesOnJoined s r.asks core.journal prefix rest)
+    (k : GoesOnBehind s.limits.history s.threads s.workers prefix rest (hub_along (opening_of s).hub (prefix ++ rest))) where
+  taken : IsRecorded s (record core { position = length (prefix ++ rest) }) (hub_along (opening_of s).hub (prefix ++ rest)) (prefix ++ rest) all firsts
   taken = record {
     asks = with_others r.asks rest;
     own = r.own;
     run = g.run;
     final = g.machine ∙ ap (gone_on rest) r.final
-        ∙ ap (λ h. record (machine_of s.limits core h front) { history_length = length front + length rest }) k.hub
-        ∙ ap (λ n. record (machine_of s.limits core (hub_along (opening_of s).hub (front ++ rest)) front) { history_length = n }) (sym (length-append front rest));
+        ∙ ap (λ h. record (machine_of s.limits core h prefix) { history_length = length prefix + length rest }) k.hub
+        ∙ ap (λ n. record (machine_of s.limits core (hub_along (opening_of s).hub (prefix ++ rest)) prefix) { history_length = n })
+        (sym (length-append prefix rest));
     registers = g.registers ∙ r.registers;
     count = r.count;
     agrees = r.agrees;
@@ -108,50 +109,50 @@ module _ (m : Machine) (h : Hub) (n : ℕ)
   owed-end s rss None may = may
   owed-end s rss (Some how) may = end-stays s rss how may
 
-module _ (s : Setting) (run : Run) (front rest : List Entry) (all : AddonStates) (others : All (λ x. is_environment x.actor ≡ false) rest)
-    (o : PendingIsAsked s all.registers (machine_of s.limits run.core (hub_along (opening_of s).hub front) front) run)
-    (k : GoesOnBehind s.limits.history s.threads s.workers front rest (hub_along (opening_of s).hub (front ++ rest))) where
-  pressed : (c : Call) → StaysPressed s.limits.history (hub_along (opening_of s).hub front) (length front) rest c
-  pressed c = calls-stay-pressed s.limits.history s.threads s.workers front rest (hub_along (opening_of s).hub front) c k.leads others k.replays
+module _ (s : Setting) (run : Run) (prefix rest : List Entry) (all : AddonStates) (others : All (λ x. is_environment x.actor ≡ false) rest)
+    (o : PendingIsAsked s all.registers (machine_of s.limits run.core (hub_along (opening_of s).hub prefix) prefix) run)
+    (k : GoesOnBehind s.limits.history s.threads s.workers prefix rest (hub_along (opening_of s).hub (prefix ++ rest))) where
+  pressed : (c : Call) → StaysPressed s.limits.history (hub_along (opening_of s).hub prefix) (length prefix) rest c
+  pressed c = calls-stay-pressed s.limits.history s.threads s.workers prefix rest (hub_along (opening_of s).hub prefix) c k.leads others k.replays
 
   abbrev Owed : Hub → ℕ → Type 0
   Owed h n =
-      PendingIsAsked s all.registers (record (machine_of s.limits run.core (hub_along (opening_of s).hub front) front) { hub = h; history_length = n })
-      (taken_in (front ++ rest) run)
+      PendingIsAsked s all.registers (record (machine_of s.limits run.core (hub_along (opening_of s).hub prefix) prefix) { hub = h; history_length = n })
+      (taken_in (prefix ++ rest) run)
 
-  owed-stays : PendingIsAsked s all.registers (machine_of s.limits run.core (hub_along (opening_of s).hub (front ++ rest)) (front ++ rest))
-      (taken_in (front ++ rest) run)
+  owed-stays : PendingIsAsked s all.registers (machine_of s.limits run.core (hub_along (opening_of s).hub (prefix ++ rest)) (prefix ++ rest))
+      (taken_in (prefix ++ rest) run)
   owed-stays =
-      let h : Hub = hub_along (opening_of s).hub front in
-      let behind : Owed (hub_along h rest) (length front + length rest) = record {
+      let h : Hub = hub_along (opening_of s).hub prefix in
+      let behind : Owed (hub_along h rest) (length prefix + length rest) = record {
         call = o.call;
         end =
-            owed-end (machine_of s.limits run.core h front) (hub_along h rest) (length front + length rest)
+            owed-end (machine_of s.limits run.core h prefix) (hub_along h rest) (length prefix + length rest)
             (λ c. (pressed c).full) (λ c. (pressed c).wants) s all.registers run.ending o.end;
       } in
-      subst (λ g. Owed g (length (front ++ rest))) k.hub (subst (λ n. Owed (hub_along h rest) n) (sym (length-append front rest)) behind)
+      subst (λ g. Owed g (length (prefix ++ rest))) k.hub (subst (λ n. Owed (hub_along h rest) n) (sym (length-append prefix rest)) behind)
 
 -- BOTH
 pub others-taken-in : OthersAreTakenIn
 others-taken-in s run history all firsts replays f =
-    let led : LeadsTo s.limits.history s.threads s.workers (f.front ++ f.rest) (hub_along (opening_of s).hub (f.front ++ f.rest)) =
+    let led : LeadsTo s.limits.history s.threads s.workers (f.prefix ++ f.rest) (hub_along (opening_of s).hub (f.prefix ++ f.rest)) =
     record { replays = subst (λ ks. HubReplays s.limits.history (opening_of s).hub 0 ks) f.history_is replays; hub = refl } in
-    let behind : GoesOnBehind s.limits.history s.threads s.workers f.front f.rest (hub_along (opening_of s).hub (f.front ++ f.rest)) =
-    fronts-replay s.limits.history s.threads s.workers f.front f.rest _ led in
-    let r : IsRecorded s run.core (hub_along (opening_of s).hub f.front) f.front all firsts = f.joined.recorded in
-    let joined : AreJoined s r.asks run.core.journal f.front f.rest =
-    fronts-join s r.asks run.core.journal f.front f.rest _ r.run r.rises r.parted led f.others in
-    let whole : IsRecordedWithPending s (taken_in (f.front ++ f.rest) run) (f.front ++ f.rest) all firsts = record {
-      recorded = taken s run.core f.front f.rest all firsts r (others-join s r.asks run.core.journal f.front f.rest joined) behind;
-      owed = owed-stays s run f.front f.rest all f.others f.joined.owed behind;
+    let behind : GoesOnBehind s.limits.history s.threads s.workers f.prefix f.rest (hub_along (opening_of s).hub (f.prefix ++ f.rest)) =
+    prefixes-replay s.limits.history s.threads s.workers f.prefix f.rest _ led in
+    let r : IsRecorded s run.core (hub_along (opening_of s).hub f.prefix) f.prefix all firsts = f.joined.recorded in
+    let joined : AreJoined s r.asks run.core.journal f.prefix f.rest =
+    prefixes-join s r.asks run.core.journal f.prefix f.rest _ r.run r.rises r.parted led f.others in
+    let whole : IsRecordedWithPending s (taken_in (f.prefix ++ f.rest) run) (f.prefix ++ f.rest) all firsts = record {
+      recorded = taken s run.core f.prefix f.rest all firsts r (others-join s r.asks run.core.journal f.prefix f.rest joined) behind;
+      owed = owed-stays s run f.prefix f.rest all f.others f.joined.owed behind;
     } in
     subst (λ ks. IsRecordedWithPending s (taken_in ks run) ks all firsts) (sym f.history_is) whole
 
 pub others-may-add : OthersMayAdd
 others-may-add s run history rest all firsts f added = record {
-  front = f.front;
+  prefix = f.prefix;
   rest = f.rest ++ rest;
-  history_is = ap (λ xs. xs ++ rest) f.history_is ∙ append_assoc f.front f.rest rest;
+  history_is = ap (λ xs. xs ++ rest) f.history_is ∙ append_assoc f.prefix f.rest rest;
   others = All-append (λ (x : Entry). is_environment x.actor ≡ false) f.rest rest f.others added;
   joined = f.joined;
   own = f.own;

@@ -42,7 +42,7 @@ pub followed-whole : (s : Setting) (run : Run) (history : List Entry) (all : Add
     → (run.ending ≡ None → IsBehindOwn run.core history)
     → IsFollowed s run history all firsts
 followed-whole s run history all firsts r own = record {
-  front = history;
+  prefix = history;
   rest = [];
   history_is = sym (append-nil history);
   others = All-nil (λ (x : Entry). is_environment x.actor ≡ false);

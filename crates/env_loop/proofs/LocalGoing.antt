@@ -21,10 +21,11 @@ pub local-goes : (plans : List Plan) (old new : Run) (all now : AddonStates) →
     → new.core.awaited ≡ None → new.ending ≡ None
     → (history : List Entry) → FollowsOn plans old history all new history now
 local-goes plans old new all now turn free idle unended history = λ s firsts of f.
-    let was : RecordsOwn s old.core (hub_along (opening_of s).hub f.front) f.front all firsts = record { recorded = f.joined.recorded; own = f.own free } in
-    let is : RecordsOwn s new.core (hub_along (opening_of s).hub f.front) f.front now firsts = turn s (hub_along (opening_of s).hub f.front) f.front firsts of was in
+    let was : RecordsOwn s old.core (hub_along (opening_of s).hub f.prefix) f.prefix all firsts = record { recorded = f.joined.recorded; own = f.own free } in
+    let is : RecordsOwn s new.core (hub_along (opening_of s).hub f.prefix) f.prefix now firsts = turn s
+    (hub_along (opening_of s).hub f.prefix) f.prefix firsts of was in
     record {
-      front = f.front;
+      prefix = f.prefix;
       rest = f.rest;
       history_is = f.history_is;
       others = f.others;

@@ -17,7 +17,7 @@ use Rattle.napi_types.specs.hub.Hub.{Hub, new_hub}
 use Rattle.napi_types.specs.hub.HubSteps.{hub_step, hub_along}
 use Rattle.napi_types.specs.hub.Replays.{HubReplays}
 use Rattle.napi_types.proofs.hub.ActorsGoOn.{threads-stand, workers-stand}
-use Rattle.napi_types.proofs.hub.GrowingHistories.{fronts-replay, leads-more}
+use Rattle.napi_types.proofs.hub.GrowingHistories.{prefixes-replay, leads-more}
 use Rattle.napi_types.proofs.hub.RunningWorks.{running-stays-running}
 use Rattle.shared_hub.proofs.RowsOfHistories.{other-actor}
 use Rattle.shared_hub.specs.HubRows.{pass_of, row_of, rows_of}
@@ -83,15 +83,16 @@ record StillRuns (w k : ℕ) (old new : Hub) : Type 0 where
   executed : executed_by new.pool w ≡ Some k
   value : value_of_work new.pool k ≡ value_of_work old.pool k
 
-still-runs : (limit threads workers w k : ℕ) (front rest : List Entry) (h : Hub) → LeadsTo limit threads workers front h → HubReplays limit h (length front) rest
+still-runs : (limit threads workers w k : ℕ) (prefix rest : List Entry) (h : Hub) → LeadsTo limit threads workers prefix h
+    → HubReplays limit h (length prefix) rest
     → All (λ (x : Entry). is_worker w x.actor ≡ false) rest → executed_by h.pool w ≡ Some k → StillRuns w k h (hub_along h rest)
-still-runs limit threads workers w k front [] h led replays others runs = record { executed = runs; value = refl }
-still-runs limit threads workers w k front (x ∷ rest) h led replays others runs =
+still-runs limit threads workers w k prefix [] h led replays others runs = record { executed = runs; value = refl }
+still-runs limit threads workers w k prefix (x ∷ rest) h led replays others runs =
     let stays : StaysRunning w k h (hub_step h x).after =
-    running-stays-running limit threads workers w k front h x led replays.0 (All-head (λ (y : Entry). is_worker w y.actor ≡ false) x rest others) runs in
+    running-stays-running limit threads workers w k prefix h x led replays.0 (All-head (λ (y : Entry). is_worker w y.actor ≡ false) x rest others) runs in
     let later : StillRuns w k (hub_step h x).after (hub_along (hub_step h x).after rest) =
-    still-runs limit threads workers w k (front ++ one x) rest (hub_step h x).after (leads-more limit threads workers front h x led replays.0 replays.1)
-    (subst (λ m. HubReplays limit (hub_step h x).after m rest) (sym (length-append front (one x))) replays.2)
+    still-runs limit threads workers w k (prefix ++ one x) rest (hub_step h x).after (leads-more limit threads workers prefix h x led replays.0 replays.1)
+    (subst (λ m. HubReplays limit (hub_step h x).after m rest) (sym (length-append prefix (one x))) replays.2)
     (All-tail (λ (y : Entry). is_worker w y.actor ≡ false) x rest others) stays.executed in
     record { executed = later.executed; value = later.value ∙ stays.value }
 
@@ -121,7 +122,7 @@ worker-runs-stand-over n s new w led after of o = record {
     others = all-apart n.threads (pass_of n.threads (actor.Worker w.number)) (is_worker w.number) (worker-apart n.threads w.number) c.rest c.others
 
     behind : GoesOnBehind n.limits.history n.threads n.workers s.history c.rest new.hub
-    behind = fronts-replay n.limits.history n.threads n.workers s.history c.rest new.hub
+    behind = prefixes-replay n.limits.history n.threads n.workers s.history c.rest new.hub
         (subst (λ xs. LeadsTo n.limits.history n.threads n.workers xs new.hub) c.goes_on after)
 
     replays : HubReplays n.limits.history s.hub (length s.history) c.rest
@@ -149,23 +150,24 @@ runs-followed-over s r threads before after all firsts followed o =
     (others-may-add s r before c.rest all firsts followed (all-apart threads 0 is_environment (other-actor threads) c.rest c.others))
 
 -- the run fits on along the entries of others
-fits-along : (run : Run) (limit : ℕ) (front rest : List Entry) (h : Hub) → HubReplays limit h (length front) rest
-    → All (λ (x : Entry). is_environment x.actor ≡ false) rest → FitsHub run (record { hub = h; history = front })
-    → FitsHub run (record { hub = hub_along h rest; history = front ++ rest })
-fits-along run limit front [] h replays others fits = subst (λ xs. FitsHub run (record { hub = h; history = xs })) (sym (append-nil front)) fits
-fits-along run limit front (x ∷ rest) h replays others fits =
-    subst (λ xs. FitsHub run (record { hub = hub_along (hub_step h x).after rest; history = xs })) (append_assoc front (one x) rest)
-    (fits-along run limit (front ++ one x) rest (hub_step h x).after
-    (subst (λ m. HubReplays limit (hub_step h x).after m rest) (sym (length-append front (one x))) replays.2)
+fits-along : (run : Run) (limit : ℕ) (prefix rest : List Entry) (h : Hub) → HubReplays limit h (length prefix) rest
+    → All (λ (x : Entry). is_environment x.actor ≡ false) rest → FitsHub run (record { hub = h; history = prefix })
+    → FitsHub run (record { hub = hub_along h rest; history = prefix ++ rest })
+fits-along run limit prefix [] h replays others fits = subst (λ xs. FitsHub run (record { hub = h; history = xs })) (sym (append-nil prefix)) fits
+fits-along run limit prefix (x ∷ rest) h replays others fits =
+    subst (λ xs. FitsHub run (record { hub = hub_along (hub_step h x).after rest; history = xs })) (append_assoc prefix (one x) rest)
+    (fits-along run limit (prefix ++ one x) rest (hub_step h x).after
+    (subst (λ m. HubReplays limit (hub_step h x).after m rest) (sym (length-append prefix (one x))) replays.2)
     (All-tail (λ (y : Entry). is_environment y.actor ≡ false) x rest others)
-    (fitting-runs-stand run (record { hub = h; history = front }) (record { hub = (hub_step h x).after; history = front ++ one x }) x fits
+    (fitting-runs-stand run (record { hub = h; history = prefix }) (record { hub = (hub_step h x).after; history = prefix ++ one x }) x fits
     (All-head (λ (y : Entry). is_environment y.actor ≡ false) x rest others) (record { next = replays.0; hub = refl; history = refl })))
 
 pub fitting-runs-stand-over : FittingRunsStandOverRows
 fitting-runs-stand-over n r s new led after fits o =
     let c : Came n.threads 0 s.history new.history = came n.threads 0 s.history new.history o in
     let behind : GoesOnBehind n.limits.history n.threads n.workers s.history c.rest new.hub =
-    fronts-replay n.limits.history n.threads n.workers s.history c.rest new.hub (subst (λ xs. LeadsTo n.limits.history n.threads n.workers xs new.hub) c.goes_on after) in
+    prefixes-replay n.limits.history n.threads n.workers s.history c.rest new.hub
+    (subst (λ xs. LeadsTo n.limits.history n.threads n.workers xs new.hub) c.goes_on after) in
     let replays : HubReplays n.limits.history s.hub (length s.history) c.rest = subst (λ h. HubReplays n.limits.history h (length s.history) c.rest) led.hub behind.replays in
     let last : hub_along s.hub c.rest ≡ new.hub = ap (λ h. hub_along h c.rest) (sym led.hub) ∙ behind.hub in
     let there : FitsHub r (record { hub = hub_along s.hub c.rest; history = s.history ++ c.rest }) =

@@ -63,12 +63,12 @@ call-at : (ops : List Op) (k : ℕ) (o : Op) (c : Call) → All IsOperationOfThr
 call-at [] k o c all at is = cc
 call-at (p ∷ ops) zero o c all at is =
     let same : p ≡ o = cc in
-    let front : thread_calls (p ∷ ops) ≡ c ∷ thread_calls ops = calls-cons p ops c (ap (λ q. operation_ask q blank_registers) same ∙ is) in
-    front ∙ sym (ap (λ cs. c ∷ drop 1 cs) front)
+    let prefix : thread_calls (p ∷ ops) ≡ c ∷ thread_calls ops = calls-cons p ops c (ap (λ q. operation_ask q blank_registers) same ∙ is) in
+    prefix ∙ sym (ap (λ cs. c ∷ drop 1 cs) prefix)
 call-at (p ∷ ops) (suc k) o c all at is =
     let t : (d : Call) × (operation_ask p blank_registers ≡ ask.Do d) = of-thread p (All-head IsOperationOfThread p ops all) in
-    let front : thread_calls (p ∷ ops) ≡ t.0 ∷ thread_calls ops = calls-cons p ops t.0 t.1 in
-    ap (drop (suc k)) front ∙ call-at ops k o c (All-tail IsOperationOfThread p ops all) at is ∙ sym (ap (λ cs. c ∷ drop (suc (suc k)) cs) front)
+    let prefix : thread_calls (p ∷ ops) ≡ t.0 ∷ thread_calls ops = calls-cons p ops t.0 t.1 in
+    ap (drop (suc k)) prefix ∙ call-at ops k o c (All-tail IsOperationOfThread p ops all) at is ∙ sym (ap (λ cs. c ∷ drop (suc (suc k)) cs) prefix)
 
 pub next-call : (ops : List Op) (k : ℕ) (o : Op) (c : Call) → All IsOperationOfThread ops → k < length ops → o ≡ get_or ops k o
     → operation_ask o blank_registers ≡ ask.Do c → drop k (thread_calls ops) ≡ c ∷ drop (k + 1) (thread_calls ops)

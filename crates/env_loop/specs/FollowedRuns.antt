@@ -1,4 +1,4 @@
--- A run that is recorded with what is pending, over the front of the history that the environment has seen, while others went on behind it.
+-- A run that is recorded with what is pending, over the prefix of the history that the environment has seen, while others went on behind it.
 use Rattle.std.specs.Prelude.{◌≡◌, ◌&&◌, true, false, List, ◌++◌, length, Option, None, IfSome, IsTrue}
 use Rattle.std.specs.List.{All}
 use Rattle.napi_types.specs.declared.call.Ask.{Ask}
@@ -52,15 +52,15 @@ pub record IsRecordedWithPending (s : Setting) (run : Run) (history : List Entry
   pub recorded : IsRecorded s run.core (hub_along (opening_of s).hub history) history all firsts
   pub owed : PendingIsAsked s all.registers (machine_of s.limits run.core (hub_along (opening_of s).hub history) history) run
 
--- it is recorded over a front of the history, and behind it are others' entries alone. The environment made the last entry of that front, unless an end is
+-- it is recorded over a prefix of the history, and behind it are others' entries alone. The environment made the last entry of that prefix, unless an end is
 -- pending
 pub record IsFollowed (s : Setting) (run : Run) (history : List Entry) (all : AddonStates) (firsts : List (List DueInfo)) : Type 0 where
-  pub front : List Entry
+  pub prefix : List Entry
   pub rest : List Entry
-  pub history_is : history ≡ front ++ rest
+  pub history_is : history ≡ prefix ++ rest
   pub others : All (λ x. is_environment x.actor ≡ false) rest
-  pub joined : IsRecordedWithPending s run front all firsts
-  pub own : run.ending ≡ None → IsBehindOwn run.core front
+  pub joined : IsRecordedWithPending s run prefix all firsts
+  pub own : run.ending ≡ None → IsBehindOwn run.core prefix
 
 -- AS OTHERS GO ON
 -- the run as it has taken in this history

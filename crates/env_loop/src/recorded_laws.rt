@@ -4,7 +4,7 @@ ghost use Rattle.env_loop.specs.OpenedAndGone.{GoneRunsHaveEnded, OpenedRunsAreF
 ghost use Rattle.env_loop.specs.RunsOverRows.{FittingRunsStandOverRows, RunsAreFollowedOverRows};
 ghost use Rattle.env_loop.specs.SharedEntries.{SharedEntriesAreRecorded};
 
-/// A run that is recorded over a front of the history, with entries of other actors alone behind it, is recorded over the whole history. Only the position
+/// A run that is recorded over a prefix of the history, with entries of other actors alone behind it, is recorded over the whole history. Only the position
 /// moves, to its length.
 pub fn others_are_taken_in()
     ensures { OthersAreTakenIn }

@@ -28,7 +28,7 @@ use Rattle.napi_types.specs.hub.Replays.{HubReplays}
 use Rattle.napi_types.specs.hub.WorkerSteps.{is_worker_there, start_step}
 use Rattle.napi_types.proofs.plain.Found.{same-self}
 use Rattle.napi_types.proofs.hub.ClosingPools.{cancelled-closing, started-closing, finished-closing}
-use Rattle.napi_types.proofs.hub.GrowingHistories.{along-more, replays-more, fronts-replay}
+use Rattle.napi_types.proofs.hub.GrowingHistories.{along-more, replays-more, prefixes-replay}
 use Rattle.napi_types.proofs.hub.HubCases.{HubCase, cancels_work, drains, delivers, starts, finishes_work, hub-case}
 use Rattle.napi_types.proofs.hub.RunningWorks.{running-stays-running}
 use Rattle.napi_types.proofs.hub.WorkerTurns.{started-executes}
@@ -191,7 +191,8 @@ module _ (n : Numbers) (p : PassState) (s : HubSeen) (led : LeadsTo n.limits.his
   behind = histories-go-on n.threads history s.history rest (goes ∙ ap (λ l. l ++ rest) rows)
 
   parts : GoesOnBehind n.limits.history n.threads n.workers history behind.0 s.hub
-  parts = fronts-replay n.limits.history n.threads n.workers history behind.0 s.hub (subst (λ l. LeadsTo n.limits.history n.threads n.workers l s.hub) behind.1 led)
+  parts = prefixes-replay n.limits.history n.threads n.workers history behind.0 s.hub
+      (subst (λ l. LeadsTo n.limits.history n.threads n.workers l s.hub) behind.1 led)
 
   pub still-closing : (led_by n history).pool.closing ≡ true → s.hub.pool.closing ≡ true
   still-closing closing =

@@ -16,7 +16,7 @@ use Rattle.napi_types.specs.hub.HubCalls.{tsfn_at, call_answer, called_answer, h
 use Rattle.napi_types.specs.hub.HubStep.{answered_step}
 use Rattle.napi_types.specs.hub.HubSteps.{IsHubNext, hub_along}
 use Rattle.napi_types.specs.hub.ThreadSteps.{is_thread_there, nothing_given}
-use Rattle.napi_types.proofs.hub.GrowingHistories.{fronts-replay}
+use Rattle.napi_types.proofs.hub.GrowingHistories.{prefixes-replay}
 use Rattle.turn_lock.specs.Passes.{PassState}
 use Rattle.shared_hub.specs.declared.naming.Numbers.{Numbers}
 use Rattle.shared_hub.specs.SharedTries.{thread_entry}
@@ -77,5 +77,6 @@ next-no-stop h t k c r kind next = by (hub_answer h (actor.Thread t) nothing_giv
 pub added-no-stop : (n : Numbers) (old new : PassState) (t k : ℕ) (c : Call) (r : Reply) → is_thread_call c ≡ true → Added n old new (thread_entry t k c r) → is_stop r.status ≡ false
 added-no-stop n old new t k c r kind a =
     let h = hub_along (new_hub n.threads n.workers) a.before in
-    let parts = fronts-replay n.limits.history n.threads n.workers a.before (one (thread_entry t k c r)) _ (record { replays = a.seen.replays; hub = refl }) in
+    let parts = prefixes-replay n.limits.history n.threads n.workers a.before (one (thread_entry t k c r)) _
+    (record { replays = a.seen.replays; hub = refl }) in
     next-no-stop h t k c r kind parts.replays.0

@@ -17,7 +17,7 @@ use Rattle.machine_laws.proofs.Counting.{none-issued, issued-next}
 use Rattle.machine_laws.proofs.ConsistentAnswers.{whole-of}
 use Rattle.machine_laws.proofs.ConsistentHeaps.{IsConsistentHeap}
 use Rattle.machine_laws.proofs.ConsistentSteps.{run-follows}
-use Rattle.machine_laws.proofs.Fronts.{steps-front}
+use Rattle.machine_laws.proofs.Prefixes.{steps-prefix}
 use Rattle.machine_laws.proofs.LiveNumbers.{all-there}
 use Rattle.machine_laws.proofs.Rising.{none-map}
 
@@ -57,4 +57,4 @@ opening-consistent given =
 -- RUNS
 pub environments-are-consistent : EnvironmentsAreConsistent
 environments-are-consistent s bs xs n run =
-    (run-follows (opening_of s) (take n bs) (take n xs) (steps-front (opening_of s) bs xs n run) (opening-consistent (opens_with s))).good
+    (run-follows (opening_of s) (take n bs) (take n xs) (steps-prefix (opening_of s) bs xs n run) (opening-consistent (opens_with s))).good

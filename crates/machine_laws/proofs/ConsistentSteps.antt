@@ -50,7 +50,7 @@ use Rattle.machine_laws.specs.Consistency.{IsConsistent, IsLiveAmong}
 use Rattle.machine_laws.proofs.ConsistentAnswers.{IsConsistentButFrames, LeadsToConsistent, parts-of, whole-of, in-heap, call_change-follows}
 use Rattle.machine_laws.proofs.ConsistentCalls.{handle-live}
 use Rattle.machine_laws.proofs.ConsistentHeaps.{IsConsistentHeap, ComesTo, HandlesStay, stays, stays-then, and-then, unchanged, with-handle, with-frame, without-frame}
-use Rattle.machine_laws.proofs.Fronts.{steps-front}
+use Rattle.machine_laws.proofs.Prefixes.{steps-prefix}
 
 tail-shorter : {A : Type 0} (xs : List A) → length (tail xs) ≤ length xs
 tail-shorter [] = omega arith
@@ -268,7 +268,7 @@ run-follows =
 -- from each moment to each later one
 pub later-follows : (m : Machine) (bs : List Ask) (xs : List Entry) (i j : ℕ) → i ≤ j → IsRunBy m bs xs → IsConsistent m.env
     → LeadsToConsistent (final m (take i bs) (take i xs)).env (final m (take j bs) (take j xs)).env
-later-follows m bs xs zero j below run c = run-follows m (take j bs) (take j xs) (steps-front m bs xs j run) c
+later-follows m bs xs zero j below run c = run-follows m (take j bs) (take j xs) (steps-prefix m bs xs j run) c
 later-follows m bs xs (suc i) zero below run c = absurd (omega (arith, below))
 later-follows m (a ∷ bs) (x ∷ xs) (suc i) (suc j) below run c =
     later-follows (after m a x) bs xs i j (omega (arith, below)) run.1 (next-follows m a x run.0 c).good

@@ -15,7 +15,7 @@ mod ConsistentValues
 mod Counting
 mod Cutting
 mod Exiting
-mod Fronts
+mod Prefixes
 mod Holding
 mod KeptScripts
 mod KeptValues

@@ -12,7 +12,7 @@ use Rattle.machine_laws.proofs.ConsistentAnswers.{LeadsToConsistent}
 use Rattle.machine_laws.proofs.ConsistentRuns.{opening-consistent}
 use Rattle.machine_laws.proofs.ConsistentSteps.{run-follows, later-follows}
 use Rattle.machine_laws.proofs.Counting.{one_when, count-cons, times, distinct-times}
-use Rattle.machine_laws.proofs.Fronts.{steps-front}
+use Rattle.machine_laws.proofs.Prefixes.{steps-prefix}
 use Rattle.machine_laws.proofs.Holding.{is_held_as, gives-held, held-all, held-handle, held-value}
 
 -- ONE MOMENT
@@ -73,7 +73,7 @@ handles-are-stable s bs xs i j h v w run one two =
     let opening : IsConsistent (opening_of s).env = opening-consistent (opens_with s) in
     let at : ℕ → Environment = λ n. (final_of s (take n bs) (take n xs)).env in
     let good : (n : ℕ) → IsConsistent (at n) =
-    λ n. (run-follows (opening_of s) (take n bs) (take n xs) (steps-front (opening_of s) bs xs n run) opening).good in
+    λ n. (run-follows (opening_of s) (take n bs) (take n xs) (steps-prefix (opening_of s) bs xs n run) opening).good in
     elim (cases_lt i j) [
       | inl before ↦ same-later (at i) (at j) h v w (good i) (later-follows (opening_of s) bs xs i j (omega (arith, before)) run opening) one two
       | inr after ↦ sym (same-later (at j) (at i) h w v (good j) (later-follows (opening_of s) bs xs j i after run opening) two one)

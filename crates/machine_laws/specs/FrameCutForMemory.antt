@@ -22,8 +22,8 @@ setting = within 100 14 (script_for 1 0 (
     ))
 
 -- the entries up to the begin of the item's frame: eleven places are taken, and the frame's call would take the last three
-abbrev pub front : List Entry
-front =
+abbrev pub prefix : List Entry
+prefix =
     opening_entries
     ++ function_created 0 (call.CreateThreadsafeFunction None (Some 1) 0 1 None 0) (target_at 1) None
     ∷ shared_making 1 (calls_function 1 mode.Nonblocking) status.Ok (item 1)
@@ -34,13 +34,13 @@ front =
 
 -- the call is not made, and the thread's is: it takes them
 abbrev pub taken : List Entry
-taken = front ++ by_thread 0 0 (calls_function 3 mode.Nonblocking) status.Ok (item 2) ∷ []
+taken = prefix ++ by_thread 0 0 (calls_function 3 mode.Nonblocking) status.Ok (item 2) ∷ []
 
 -- how the frame's end may tell that it was cut
 pub record Cuts : Type 0 where
   -- with the three places left: for want of memory, and not as full
-  pub room : IsRun setting (front ++ frame_ends (out.Cut why.Memory) ∷ [])
-  pub full : IsRun setting (front ++ frame_ends (out.Cut why.Full) ∷ []) → ⊥
+  pub room : IsRun setting (prefix ++ frame_ends (out.Cut why.Memory) ∷ [])
+  pub full : IsRun setting (prefix ++ frame_ends (out.Cut why.Full) ∷ []) → ⊥
   -- where the thread has taken them, still for want of memory, or as full
   pub later : IsRun setting (taken ++ frame_ends (out.Cut why.Memory) ∷ [])
   pub taken : IsRun setting (taken ++ frame_ends (out.Cut why.Full) ∷ [])

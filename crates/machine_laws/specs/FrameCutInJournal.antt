@@ -40,8 +40,8 @@ abbrev pub cut_full : Entry
 cut_full = frame_ends (out.Cut why.Full)
 
 -- the history up to the begin of the item's frame, and behind its end
-abbrev pub history_front : List Entry
-history_front =
+abbrev pub history_prefix : List Entry
+history_prefix =
     function_created 0 (call.CreateThreadsafeFunction None (Some 1) 0 1 None 0) (target_at 1) None
     ∷ shared_making 1 (calls_function 1 mode.Nonblocking) status.Ok (item 1)
     ∷ go_entry
@@ -52,14 +52,14 @@ abbrev pub history_end : List Entry
 history_end = loop_ended loop_end.Quiet ∷ drains 0 ∷ function_finishes ∷ finals ∷ []
 
 abbrev pub history : List Entry
-history = history_front ++ cut_full ∷ history_end
+history = history_prefix ++ cut_full ∷ history_end
 
 -- the journal up to the calls of the item's frame
-abbrev pub journal_front : List Local
-journal_front = at_length 0 opening_entries ++ at_length 2 (frame_end ∷ []) ++ at_length 4 (version_told 0 ∷ version_told 1 ∷ [])
+abbrev pub journal_prefix : List Local
+journal_prefix = at_length 0 opening_entries ++ at_length 2 (frame_end ∷ []) ++ at_length 4 (version_told 0 ∷ version_told 1 ∷ [])
 
 abbrev pub journal : List Local
-journal = journal_front ++ at_length 9 (gone_entry ∷ [])
+journal = journal_prefix ++ at_length 9 (gone_entry ∷ [])
 
 -- the whole run
 abbrev pub trace : List Entry
@@ -84,7 +84,7 @@ Prints = text fixed_texts trace ≡
 
 -- the same entries, where the end of the item's frame stands in the journal
 abbrev pub journal_with_end : List Local
-journal_with_end = journal_front ++ at_length 4 (cut_full ∷ []) ++ at_length 8 (gone_entry ∷ [])
+journal_with_end = journal_prefix ++ at_length 4 (cut_full ∷ []) ++ at_length 8 (gone_entry ∷ [])
 
 -- NEAR MISSES
 pub record IsStrict : Type 0 where
@@ -92,5 +92,5 @@ pub record IsStrict : Type 0 where
   pub full : IsRun setting (next_after 9 trace (version_told 2)) → ⊥
   pub room : IsRun (setting_within 7) (next_after 9 trace (version_told 2))
   -- the end of the frame does not stand in the journal, though the weave is the same
-  pub same : weave journal_with_end (history_front ++ history_end) ≡ trace
-  pub end : IsParted (opening_of setting) (told_asks setting trace) journal_with_end (history_front ++ history_end) → ⊥
+  pub same : weave journal_with_end (history_prefix ++ history_end) ≡ trace
+  pub end : IsParted (opening_of setting) (told_asks setting trace) journal_with_end (history_prefix ++ history_end) → ⊥

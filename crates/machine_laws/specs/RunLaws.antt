@@ -22,8 +22,8 @@ abbrev pub RunsAreComputed : Type 0
 RunsAreComputed = (m : Machine) (bs : List Ask) (xs : List Entry) → (IsRunBy m bs xs ↔ ComputesBy m bs xs)
 
 -- what came of a run up to any moment is a run
-abbrev pub FrontsAreRuns : Type 0
-FrontsAreRuns = (s : Setting) (bs : List Ask) (xs : List Entry) (n : ℕ) → RunsBy s bs xs → RunsBy s (take n bs) (take n xs)
+abbrev pub PrefixesAreRuns : Type 0
+PrefixesAreRuns = (s : Setting) (bs : List Ask) (xs : List Entry) (n : ℕ) → RunsBy s bs xs → RunsBy s (take n bs) (take n xs)
 
 -- one entry more on this list, and none on the other
 abbrev pub GrowsOn : Side → Machine → Machine → Type 0

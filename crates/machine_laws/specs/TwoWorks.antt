@@ -23,8 +23,8 @@ setting_for workers = script_for 0 workers (
     )
 
 -- the entries up to the second queueing
-abbrev pub front : List Entry
-front =
+abbrev pub prefix : List Entry
+prefix =
     opening_entries
     ++ work_created 0 (call.CreateAsyncWork (job.Sum 4) 1 0) 1
     ∷ shared_making 1 (call.QueueAsyncWork (work 1)) status.Ok (work_duty 1)
@@ -34,15 +34,15 @@ front =
 
 -- two workers execute both at once, and the one that started last finishes first; their values
 abbrev pub both : List Entry
-both = front ++ worker_starts 1 1 ∷ worker_starts 0 2 ∷ worker_finishes 0 7806831264735756412 ∷ worker_finishes 1 10 ∷ []
+both = prefix ++ worker_starts 1 1 ∷ worker_starts 0 2 ∷ worker_finishes 0 7806831264735756412 ∷ worker_finishes 1 10 ∷ []
 
 pub record IsStrict : Type 0 where
   pub both : IsRun (setting_for 2) both
   -- the work that was queued first starts first
-  pub first : (n : ℕ) → IsRun (setting_for 2) (front ++ worker_starts 0 n ∷ []) → n ≡ 1
+  pub first : (n : ℕ) → IsRun (setting_for 2) (prefix ++ worker_starts 0 n ∷ []) → n ≡ 1
   -- a worker that executes one starts no other, ..
-  pub twice : IsRun (setting_for 1) (front ++ worker_starts 0 1 ∷ worker_starts 0 2 ∷ []) → ⊥
+  pub twice : IsRun (setting_for 1) (prefix ++ worker_starts 0 1 ∷ worker_starts 0 2 ∷ []) → ⊥
   -- .. and finishes only the one that it executes
-  pub other : (n : ℕ) → IsRun (setting_for 2) (front ++ worker_starts 0 1 ∷ worker_finishes 1 n ∷ []) → ⊥
+  pub other : (n : ℕ) → IsRun (setting_for 2) (prefix ++ worker_starts 0 1 ∷ worker_finishes 1 n ∷ []) → ⊥
   -- no call has a work's number that was issued before
-  pub number : IsRun (setting_for 2) (next_after 4 front (work_created 2 (call.CreateAsyncWork (job.Mix 1 1) 1 0) 1)) → ⊥
+  pub number : IsRun (setting_for 2) (next_after 4 prefix (work_created 2 (call.CreateAsyncWork (job.Mix 1 1) 1 0) 1)) → ⊥

@@ -1,6 +1,6 @@
 //! Laws over all runs, and over all stores.
 ghost use Rattle.machine_laws.specs.TsfnRoots.{NewFunctionsKeepTheirValue, FunctionsKeepUntilTheyFinish, FinishedFunctionsKeepNone};
-ghost use Rattle.machine_laws.specs.RunLaws.{FrontsAreRuns, RunsAreComputed, EntriesCountOnTheirList, OthersLeaveRegisters, ReachIsLeast};
+ghost use Rattle.machine_laws.specs.RunLaws.{PrefixesAreRuns, RunsAreComputed, EntriesCountOnTheirList, OthersLeaveRegisters, ReachIsLeast};
 
 /// What a run is made of.
 pub fn runs()
@@ -8,7 +8,7 @@ pub fn runs()
     ensures computed { RunsAreComputed }
 
     // What came of a run up to any moment is a run.
-    ensures fronts { FrontsAreRuns }
+    ensures prefixes { PrefixesAreRuns }
 
     // Each entry is counted on the list on which it stands, and on no other.
     ensures lists { EntriesCountOnTheirList }

@@ -1,8 +1,8 @@
 //! What the machine's definitions come to over all runs in which threads and workers take part, as laws: each function does nothing, and its
 //! contract states a law.
 ghost use Rattle.napi_types.specs.hub.ActorLaws.{ThreadsGoOn, ThreadsStandAsOthersGoOn, WorkersGoOn, WorkersStandAsOthersGoOn, WorkersStandAsTheHubSays};
-ghost use Rattle.napi_types.specs.hub.HistoryLaws.{FrontsReplay, OthersKeepTheHub, OthersLowerNothing, OthersOccupyNoLess, CallsStayPressed, PoolsCloseAtTheDrain, WorkersEndAfterTheDrain, ExecutingWorkersAreThere, HubsAreWithin, NoCallWaitsFromTheDrainOn, EndedThreadsHaveNoneLeft, WorkersTakeTurns, RunningStaysRunning};
-ghost use Rattle.napi_types.specs.all_runs.HubLaws.{FrontsJoin, OthersJoin, HistoriesLeadToTheirHub, AddonsAreTheScripts, ScriptsStayAsOthersGoOn, FrontsKeepScripts, ThreadsKeepAsOthersGoOn, FrontsOfThreadsKeep, ThreadsComeToTheirEnd};
+ghost use Rattle.napi_types.specs.hub.HistoryLaws.{PrefixesReplay, OthersKeepTheHub, OthersLowerNothing, OthersOccupyNoLess, CallsStayPressed, PoolsCloseAtTheDrain, WorkersEndAfterTheDrain, ExecutingWorkersAreThere, HubsAreWithin, NoCallWaitsFromTheDrainOn, EndedThreadsHaveNoneLeft, WorkersTakeTurns, RunningStaysRunning};
+ghost use Rattle.napi_types.specs.all_runs.HubLaws.{PrefixesJoin, OthersJoin, HistoriesLeadToTheirHub, AddonsAreTheScripts, ScriptsStayAsOthersGoOn, PrefixesKeepScripts, ThreadsKeepAsOthersGoOn, PrefixesOfThreadsKeep, ThreadsComeToTheirEnd};
 ghost use Rattle.napi_types.specs.all_runs.AcceptedCalls.{AcceptedCallsTellTheirDuty};
 ghost use Rattle.napi_types.specs.all_runs.Goings.{NextEventsMayCome, SomebodyAlwaysGoesOn, RunsNeverStandStill};
 ghost use Rattle.napi_types.specs.runs.LoopEnds.{LoopsEndForTheReason, LoopsEndIdleOrQuiet};
@@ -10,13 +10,13 @@ ghost use Rattle.napi_types.specs.environment.MadeTickets.{UnrefusedCallsMakeThe
 ghost use Rattle.napi_types.specs.hub.MadeDuties.{AnswersMakeTheirDuty, NoWorkRefusalAccepts};
 ghost use Rattle.napi_types.specs.environment.SharedCalls.{SharedEntriesAreHanded, SharedRefusals};
 
-/// The environment sees a front of the history. Where its journal and that front are a run, the whole history replays at the hub, and behind the front stand
+/// The environment sees a prefix of the history. Where its journal and that prefix are a run, the whole history replays at the hub, and behind the prefix stand
 /// entries of other actors alone, the environment and the hub are joined.
-pub fn fronts_join()
-    ensures { FrontsJoin }
+pub fn prefixes_join()
+    ensures { PrefixesJoin }
 {}
 
-/// The environment sees a front of the history. Where its journal and that front are a run, and other actors went on behind it, the journal
+/// The environment sees a prefix of the history. Where its journal and that prefix are a run, and other actors went on behind it, the journal
 /// and the whole history are a run, which leaves the environment and the registers as they were.
 pub fn others_join()
     ensures { OthersJoin }
@@ -27,9 +27,9 @@ pub fn histories_lead_to_their_hub()
     ensures { HistoriesLeadToTheirHub }
 {}
 
-/// Each front of a history that replays at the hub replays too. What stands behind it replays from there on, and leads to the same hub.
-pub fn fronts_replay()
-    ensures { FrontsReplay }
+/// Each prefix of a history that replays at the hub replays too. What stands behind it replays from there on, and leads to the same hub.
+pub fn prefixes_replay()
+    ensures { PrefixesReplay }
 {}
 
 /// At every moment of a run the addons of frames, functions, tickets, works and thread-safe functions are those of the script.
@@ -42,9 +42,9 @@ pub fn scripts_stay_as_others_go_on()
     ensures { ScriptsStayAsOthersGoOn }
 {}
 
-/// So does each front of it.
-pub fn fronts_keep_scripts()
-    ensures { FrontsKeepScripts }
+/// So does each prefix of it.
+pub fn prefixes_keep_scripts()
+    ensures { PrefixesKeepScripts }
 {}
 
 /// An entry of a thread or a worker keeps how far the hub is, the duty whose frame stands, and how many threads and workers there are. Where works
@@ -95,15 +95,15 @@ pub fn running_stays_running()
     ensures { RunningStaysRunning }
 {}
 
-/// Where a thread stands after a history: what it made and which of its calls are left. With its next entry behind the history, a call or its end, it stands one
-/// further, and entries of other actors leave it where it stands.
+/// Where a thread stands after a history: what it made and which of its calls are left. With its next entry behind the history, a call or its end, it stands
+/// one further, and entries of other actors leave it where it stands.
 pub fn threads_go_on()
     ensures next { ThreadsGoOn }
     ensures others { ThreadsStandAsOthersGoOn }
 {}
 
-/// Where a worker stands after a history: free, with a work, or ended. Its next entry alone moves it, and over every history that replays at the hub that is where
-/// the hub says that it stands.
+/// Where a worker stands after a history: free, with a work, or ended. Its next entry alone moves it, and over every history that replays at the hub that is
+/// where the hub says that it stands.
 pub fn workers_go_on()
     ensures next { WorkersGoOn }
     ensures others { WorkersStandAsOthersGoOn }
@@ -115,9 +115,9 @@ pub fn threads_keep_as_others_go_on()
     ensures { ThreadsKeepAsOthersGoOn }
 {}
 
-/// So each does at each front of the history.
-pub fn fronts_of_threads_keep()
-    ensures { FrontsOfThreadsKeep }
+/// So each does at each prefix of the history.
+pub fn prefixes_of_threads_keep()
+    ensures { PrefixesOfThreadsKeep }
 {}
 
 /// Over every history that replays at the hub a thread has ended exactly where none of its calls is left to speak of.

@@ -8,7 +8,7 @@ use Rattle.napi_types.specs.plain.Edge.{HasRisen}
 use Rattle.napi_types.specs.scripts.Script.{IsScript, IsWrong, HasWrongShape}
 use Rattle.napi_types.specs.scripts.ScriptReading.{IsNoJson}
 use Rattle.outside.specs.Ends.{Input}
-use Rattle.outside.specs.Reading.{longest_source, GaveFront, GaveTooMany}
+use Rattle.outside.specs.Reading.{longest_source, GavePrefix, GaveTooMany}
 use Rattle.outside.specs.declared.message.Message.{Message}
 use Rattle.outside.specs.declared.message.Message.TheVariants as line
 use Rattle.outside.specs.declared.scripts.Demand.{Demand}
@@ -101,8 +101,8 @@ abbrev pub GaveOrRefused : Demand → Input → ℕ → Result Script Message �
 GaveOrRefused d input handed (Ok script) = GaveDemanded d input handed script
 GaveOrRefused d input handed (Err l) = CausesOfReading d l input handed
 
--- what became of the source for this answer: it gave a front of what it had left, and a read that failed was counted only where the answer tells one
+-- what became of the source for this answer: it gave a prefix of what it had left, and a read that failed was counted only where the answer tells one
 pub record ReadFor {A : Type 0} (answer : Result A Message) (input : Input) : Type 0 where
-  pub front : GaveFront input.before input.after
+  pub prefix : GavePrefix input.before input.after
   pub rises : input.faults ≤ input.faults_after
   pub counted : (answer ≡ Err line.ReadFault → ⊥) → input.faults_after ≡ input.faults

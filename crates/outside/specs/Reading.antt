@@ -6,14 +6,14 @@ use Rattle.std.specs.Io.KnownBytes.{prepend_known}
 abbrev pub longest_source : ℕ
 longest_source = 4194304
 
--- a source gave a front of what it had left: at most one byte more than a source may give
-pub record GaveFront (old new : Option (List ℕ)) : Type 0 where
-  pub front : List ℕ
-  pub within : length front ≤ longest_source + 1
-  pub gave : old ≡ prepend_known front new
+-- a source gave a prefix of what it had left: at most one byte more than a source may give
+pub record GavePrefix (old new : Option (List ℕ)) : Type 0 where
+  pub prefix : List ℕ
+  pub within : length prefix ≤ longest_source + 1
+  pub gave : old ≡ prepend_known prefix new
 
 -- a source gave one byte more than a source may give, and no further one
 pub record GaveTooMany (old new : Option (List ℕ)) : Type 0 where
-  pub front : List ℕ
-  pub longer : length front ≡ longest_source + 1
-  pub gave : old ≡ prepend_known front new
+  pub prefix : List ℕ
+  pub longer : length prefix ≡ longest_source + 1
+  pub gave : old ≡ prepend_known prefix new

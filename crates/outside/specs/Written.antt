@@ -3,7 +3,7 @@ use Rattle.std.specs.Prelude.{◌≡◌, ◌≢◌, ◌≤◌, ℕ, Bool, true, 
 use Rattle.std.specs.List.{list_any}
 use Rattle.std.specs.Io.KnownBytes.{append_known}
 use Rattle.napi_types.specs.declared.lists.Record.{Record}
-use Rattle.napi_types.specs.plain.Edge.{HasRisen, TookFront}
+use Rattle.napi_types.specs.plain.Edge.{HasRisen, TookPrefix}
 use Rattle.napi_types.specs.plain.Room.{most_entries}
 use Rattle.napi_types.specs.plain.Weave.{weave, RisesBetween}
 use Rattle.napi_types.specs.scripts.Summary.{summary}
@@ -21,14 +21,15 @@ text_written command.Run texts left = text texts (weave left.journal left.histor
 text_written command.Summary texts left = summary (weave left.journal left.history)
 text_written (command.Load number) texts left = summary (weave left.journal left.history)
 
--- the sink took the whole line, or its faults rose and it took a front of it
+-- the sink took the whole line, or its faults rose and it took a prefix of it
 abbrev pub WroteLine : Output → List ℕ → Type 0
-WroteLine output line = (output.after ≡ append_known output.before line) ⊎ (HasRisen output.faults output.faults_after × TookFront output.before line output.after)
+WroteLine output line =
+    (output.after ≡ append_known output.before line) ⊎ (HasRisen output.faults output.faults_after × TookPrefix output.before line output.after)
 
--- the sink took the whole text; or, where the text was cut off, its faults rose and it took a front of the text
+-- the sink took the whole text; or, where the text was cut off, its faults rose and it took a prefix of the text
 abbrev pub WroteText : Bool → Output → List ℕ → Type 0
 WroteText true output written = output.after ≡ append_known output.before written
-WroteText false output written = HasRisen output.faults output.faults_after × TookFront output.before written output.after
+WroteText false output written = HasRisen output.faults output.faults_after × TookPrefix output.before written output.after
 
 -- THE STATUSES
 -- the statuses with which the top call ends

@@ -1,7 +1,7 @@
 //! The lines that stand in place of a text.
 ghost use Rattle.std.specs.Prelude.{◌≡◌, ◌≤◌, OnOk, OnErr};
 ghost use Rattle.std.specs.Io.KnownBytes.{append_known};
-ghost use Rattle.napi_types.specs.plain.Edge.{HasRisen, TookFront};
+ghost use Rattle.napi_types.specs.plain.Edge.{HasRisen, TookPrefix};
 ghost use Rattle.outside.specs.Words.{line_text, line_status, limit_line, shape_line};
 
 use napi_types::{Failed, LimitName, Sink, Text};
@@ -48,7 +48,7 @@ impl Message {
     /// Writes the line, with its newline.
     pub(crate) fn write<K: Sink>(&self, sink: &mut K) -> Result<(), Failed>
         ensures ok { OnOk result (K.taken sink.new ≡ append_known (K.taken sink.old) (line_text self.now)) }
-        ensures err { OnErr result (TookFront (K.taken sink.old) (line_text self.now) (K.taken sink.new)) }
+        ensures err { OnErr result (TookPrefix (K.taken sink.old) (line_text self.now) (K.taken sink.new)) }
         ensures failed { OnErr result (HasRisen (K.faults sink.old) (K.faults sink.new)) }
         ensures faults { K.faults sink.old ≤ K.faults sink.new }
     {
@@ -86,7 +86,7 @@ impl Message {
 /// Writes a text, which a sink may cut off.
 fn put_text<K: Sink>(sink: &mut K, text: &str) -> Result<(), Failed>
     ensures ok { OnOk result (K.taken sink.new ≡ append_known (K.taken sink.old) text.now) }
-    ensures err { OnErr result (TookFront (K.taken sink.old) text.now (K.taken sink.new)) }
+    ensures err { OnErr result (TookPrefix (K.taken sink.old) text.now (K.taken sink.new)) }
     ensures failed { OnErr result (HasRisen (K.faults sink.old) (K.faults sink.new)) }
     ensures faults { K.faults sink.old ≤ K.faults sink.new }
 {
@@ -96,7 +96,7 @@ fn put_text<K: Sink>(sink: &mut K, text: &str) -> Result<(), Failed>
 /// Writes a path, which a sink may cut off.
 fn put_name<K: Sink>(sink: &mut K, path: &Text) -> Result<(), Failed>
     ensures ok { OnOk result (K.taken sink.new ≡ append_known (K.taken sink.old) path.now) }
-    ensures err { OnErr result (TookFront (K.taken sink.old) path.now (K.taken sink.new)) }
+    ensures err { OnErr result (TookPrefix (K.taken sink.old) path.now (K.taken sink.new)) }
     ensures failed { OnErr result (HasRisen (K.faults sink.old) (K.faults sink.new)) }
     ensures faults { K.faults sink.old ≤ K.faults sink.new }
 {
@@ -106,7 +106,7 @@ fn put_name<K: Sink>(sink: &mut K, path: &Text) -> Result<(), Failed>
 /// Writes the line of a path, with its newline.
 fn put_path<K: Sink>(sink: &mut K, path: &Text) -> Result<(), Failed>
     ensures ok { OnOk result (K.taken sink.new ≡ append_known (K.taken sink.old) (shape_line path.now)) }
-    ensures err { OnErr result (TookFront (K.taken sink.old) (shape_line path.now) (K.taken sink.new)) }
+    ensures err { OnErr result (TookPrefix (K.taken sink.old) (shape_line path.now) (K.taken sink.new)) }
     ensures failed { OnErr result (HasRisen (K.faults sink.old) (K.faults sink.new)) }
     ensures faults { K.faults sink.old ≤ K.faults sink.new }
 {

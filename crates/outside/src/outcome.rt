@@ -1,7 +1,7 @@
 //! What is written of a run, and the status that tells it.
 ghost use Rattle.std.specs.Prelude.{◌≡◌, ◌≤◌, OnOk, OnErr};
 ghost use Rattle.std.specs.Io.KnownBytes.{append_known};
-ghost use Rattle.napi_types.specs.plain.Edge.{HasRisen, TookFront};
+ghost use Rattle.napi_types.specs.plain.Edge.{HasRisen, TookPrefix};
 ghost use Rattle.outside.specs.Ends.{output_of};
 ghost use Rattle.outside.specs.Words.{line_text};
 ghost use Rattle.outside.specs.Written.{text_written, IsCounted, WroteOutcome, WroteRun, WroteRefusal};
@@ -20,7 +20,7 @@ fn write_text<K: Sink>(
 ) -> Result<(), Failed>
     requires { IsCounted left.now }
     ensures ok { OnOk result (K.taken sink.new ≡ append_known (K.taken sink.old) (text_written command texts.now left.now)) }
-    ensures err { OnErr result (TookFront (K.taken sink.old) (text_written command texts.now left.now) (K.taken sink.new)) }
+    ensures err { OnErr result (TookPrefix (K.taken sink.old) (text_written command texts.now left.now) (K.taken sink.new)) }
     ensures failed { OnErr result (HasRisen (K.faults sink.old) (K.faults sink.new)) }
     ensures counted { OnOk result (K.faults sink.new ≡ K.faults sink.old) }
     ensures faults { K.faults sink.old ≤ K.faults sink.new }

@@ -2,7 +2,7 @@
 ghost use Rattle.std.specs.Prelude.{◌≡◌, ◌≢◌, ◌<◌, ◌≤◌, IfOk, IfSome, OnOk, length, vec_len};
 ghost use Rattle.std.specs.Io.KnownBytes.{prepend_known, IsAtEnd};
 ghost use Rattle.napi_types.specs.plain.Edge.{HasRisen};
-ghost use Rattle.outside.specs.Reading.{longest_source, GaveFront, GaveTooMany};
+ghost use Rattle.outside.specs.Reading.{longest_source, GavePrefix, GaveTooMany};
 
 use napi_types::Source;
 use std::alloc::Global;
@@ -40,7 +40,7 @@ pub(crate) fn read_all<S: Source>(alloc: Global, source: &mut S) -> Result<Vec<u
     ensures fault { result ≡ Err ReadError.Fault
         → HasRisen (S.faults source.old) (S.faults source.new) }
     ensures counted { result ≢ Err ReadError.Fault → S.faults source.new ≡ S.faults source.old }
-    ensures front { GaveFront (S.left source.old) (S.left source.new) }
+    ensures prefix { GavePrefix (S.left source.old) (S.left source.new) }
     ensures faults { S.faults source.old ≤ S.faults source.new }
 {
     let mut bytes = Vec::new(alloc);

@@ -31,11 +31,11 @@ use Rattle.runner.proofs.TakenTurns.{run-at-take, stands-after, stands-at-first}
 
 -- GOING ON
 -- a run goes on, and then on
-pub goes-then : (n : Numbers) (plans : List Plan) (first run new : Run) (front history later : List Entry) (start before after : AddonStates)
-    → first.core.env.addons ≡ run.core.env.addons → FollowsOnAt n plans first front start run history before
+pub goes-then : (n : Numbers) (plans : List Plan) (first run new : Run) (prefix history later : List Entry) (start before after : AddonStates)
+    → first.core.env.addons ≡ run.core.env.addons → FollowsOnAt n plans first prefix start run history before
     → FollowsOnAt n plans run history before new later after
-    → FollowsOnAt n plans first front start new later after
-goes-then n plans first run new front history later start before after same was is = λ s firsts numbers of f.
+    → FollowsOnAt n plans first prefix start new later after
+goes-then n plans first run new prefix history later start before after same was is = λ s firsts numbers of f.
     is s firsts numbers (record { count = of.count ∙ same; first = of.first }) (was s firsts numbers of f)
 
 -- what a run was followed from, before its first turn

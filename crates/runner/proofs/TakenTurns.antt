@@ -33,7 +33,7 @@ prefix-twice : {A : Type 0} (xs ys zs : List A) → IsPrefix xs ys → IsPrefix 
 prefix-twice xs ys zs p q = (p.0 ++ q.0, sym (append_assoc xs p.0 q.0) ∙ (ap (λ l. l ++ q.0) p.1 ∙ q.1))
 
 -- TAKING A TURN
--- the history that is taken, or that is there once the lock is closed: the pass has seen a front of its rows, and has all its own rows
+-- the history that is taken, or that is there once the lock is closed: the pass has seen a prefix of its rows, and has all its own rows
 module _ (n : Numbers) (p : PassState) (history : List Entry) (before : IsPrefix p.seen (rows_of n.threads history)) (own : p.own ≡ own_rows p.number (rows_of n.threads history)) where
   -- behind what the pass stood for came others alone
   pub others-came : (Holds : HubSeen → Type 0) (at : HoldsAtPass n p Holds) → OthersCame n.threads p.number at.history history

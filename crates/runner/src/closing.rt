@@ -30,7 +30,7 @@ pub fn close<J: Job, N: Naming>(hub: Hub<J, N>, passes: Vec<Pass>, env: EnvRun) 
     requires gone { env.core.env.phase ≡ Phase.Gone }
     ensures journal { result.journal ≡ env.core.journal }
 
-    // Each pass had seen a front of the rows, and has all its own rows.
+    // Each pass had seen a prefix of the rows, and has all its own rows.
     ensures seen { All (λ p. IsPrefix p.seen (rows_of N.numbers.threads result.history)) passes.items }
     ensures own { All (λ p. p.own ≡ own_rows p.number (rows_of N.numbers.threads result.history)) passes.items }
     ensures led { IsReplayed N.numbers (hub_seen N.numbers result.history) }

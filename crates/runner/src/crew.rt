@@ -115,7 +115,7 @@ impl<J: Job, N: Naming + Send + Sync> Crew<J, N> {
         ensures others { let n = env.core.env.addons in
             drop n (map (λ b. regs b) addons.new.items) ≡ drop n (map (λ b. regs b) addons.old.items) }
 
-        // Each thread made its script's calls, or a front of them where one stopped, and its end. Each worker's entries came by turns. All have ended.
+        // Each thread made its script's calls, or a prefix of them where one stopped, and its end. Each worker's entries came by turns. All have ended.
         ensures actors { (last : List (ActorRun J)) × AllZip IsSameActor self last × All (IsActorOf N.numbers (hub_seen N.numbers result.history)) last
             × All (λ a. is_over a ≡ true) last }
     {

@@ -65,7 +65,7 @@ pub fn run_env<J: Job, N: Naming, R: Wait>(
     ensures others { let n = env.old.core.env.addons in
         drop n (map (λ b. regs b) addons.new.items) ≡ drop n (map (λ b. regs b) addons.old.items) }
 
-    // Each stray has ended: a thread made its script's calls, or a front of them where one stopped, and a worker its starts and finishes.
+    // Each stray has ended: a thread made its script's calls, or a prefix of them where one stopped, and a worker its starts and finishes.
     ensures strays { AllZip (HasEndedStray N.numbers) strays.old.items strays.new.items }
 {
     for _ in rt.forever() {

@@ -8,7 +8,7 @@ use Rattle.napi_types.specs.scripts.Script.{IsScript, IsWrong}
 use Rattle.napi_types.specs.scripts.ScriptReading.{IsNoJson}
 use Rattle.outside.specs.Ends.{Input, Output}
 use Rattle.outside.specs.Given.{is_met, Gave, GaveScript, GaveTooMuch, CausesOfReading}
-use Rattle.outside.specs.Reading.{longest_source, GaveFront}
+use Rattle.outside.specs.Reading.{longest_source, GavePrefix}
 use Rattle.outside.specs.Words.{command_of, reads, line_status, line_text}
 use Rattle.outside.specs.Written.{IsStatus, IsRunStatus, WroteLine}
 use Rattle.outside.specs.declared.commands.Command.{Command}
@@ -122,11 +122,11 @@ pub record Concluded (d : Demand) (words : List (List ℕ)) (input : Input) (out
   pub refused_told : (c : Command) (bytes : List ℕ) → IsAskedFor words input c bytes → IsRefused d c bytes handed → (status ≡ 3) ⊎ (status ≡ 6)
   pub complete : (c : Command) (bytes : List ℕ) → IsAskedFor words input c bytes → IsRunnable d c bytes handed → IsRunStatus status ⊎ (status ≡ 6)
 
--- what a top call says of the source: it reads nothing where the words are no command line or ask for a load, and else no more than a front of what is left
+-- what a top call says of the source: it reads nothing where the words are no command line or ask for a load, and else no more than a prefix of what is left
 pub record ReadAsAsked (words : List (List ℕ)) (input : Input) : Type 0 where
   pub unread : reads (command_of words) ≡ false → input.after ≡ input.before
   pub uncounted : reads (command_of words) ≡ false → input.faults_after ≡ input.faults
-  pub front : GaveFront input.before input.after
+  pub prefix : GavePrefix input.before input.after
   pub rises : input.faults ≤ input.faults_after
 
 -- WHAT CAME OF THE WORDS

@@ -130,7 +130,7 @@ pub fn host<R: Threads + Wait + Sync, S: Source, K: Sink, G: Gate>(
         let output = output_of K.taken K.faults sink.old sink.new in
         Concluded Demand.Nothing words.now input output (length addons.old.items) result }
 
-    // Nothing is read where the words are no command line or ask for a load, and else no more than a front of what the source has left.
+    // Nothing is read where the words are no command line or ask for a load, and else no more than a prefix of what the source has left.
     ensures source { let input = input_of S.left S.faults source.old source.new in
         ReadAsAsked words.now input }
     ensures writing { K.faults sink.old ≤ K.faults sink.new }

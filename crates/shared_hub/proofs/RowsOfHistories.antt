@@ -16,7 +16,7 @@ rows-many threads history = length-map history (row_of threads)
 
 pub rows-go-on : RowsGoOn
 rows-go-on threads [] rest = refl
-rows-go-on threads (x ∷ front) rest = ap (λ rs. row_of threads x ∷ rs) (rows-go-on threads front rest)
+rows-go-on threads (x ∷ prefix) rest = ap (λ rs. row_of threads x ∷ rs) (rows-go-on threads prefix rest)
 
 pub histories-go-on : HistoriesGoOnAsRows
 histories-go-on threads [] after rows is = (after, refl, is)

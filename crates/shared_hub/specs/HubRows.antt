@@ -23,9 +23,9 @@ rows_of threads history = map (row_of threads) history
 abbrev pub RowsAreAsMany : Type 0
 RowsAreAsMany = (threads : ℕ) (history : List Entry) → length (rows_of threads history) ≡ length history
 
--- the rows of a history that goes on are those of its front, and then those of what came
+-- the rows of a history that goes on are those of its prefix, and then those of what came
 abbrev pub RowsGoOn : Type 0
-RowsGoOn = (threads : ℕ) (front rest : List Entry) → rows_of threads (front ++ rest) ≡ rows_of threads front ++ rows_of threads rest
+RowsGoOn = (threads : ℕ) (prefix rest : List Entry) → rows_of threads (prefix ++ rest) ≡ rows_of threads prefix ++ rows_of threads rest
 
 -- where the rows go on, so does the history
 abbrev pub HistoriesGoOnAsRows : Type 0

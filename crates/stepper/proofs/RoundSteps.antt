@@ -87,9 +87,9 @@ all-turns P (actor.Env ∷ xs) all = All-tail P actor.Env xs all
 all-turns P (actor.Thread t ∷ xs) all = All-cons P (actor.Thread t) (turns_of xs) (All-head P (actor.Thread t) xs all) (all-turns P xs (All-tail P (actor.Thread t) xs all))
 all-turns P (actor.Worker w ∷ xs) all = All-cons P (actor.Worker w) (turns_of xs) (All-head P (actor.Worker w) xs all) (all-turns P xs (All-tail P (actor.Worker w) xs all))
 
-pub all-front : (P : Actor → Type 0) (xs ys : List Actor) → All P (xs ++ ys) → All P xs
-all-front P [] ys all = All-nil P
-all-front P (x ∷ xs) ys all = All-cons P x xs (All-head P x (xs ++ ys) all) (all-front P xs ys (All-tail P x (xs ++ ys) all))
+pub all-prefix : (P : Actor → Type 0) (xs ys : List Actor) → All P (xs ++ ys) → All P xs
+all-prefix P [] ys all = All-nil P
+all-prefix P (x ∷ xs) ys all = All-cons P x xs (All-head P x (xs ++ ys) all) (all-prefix P xs ys (All-tail P x (xs ++ ys) all))
 
 pub all-back : (P : Actor → Type 0) (xs ys : List Actor) → All P (xs ++ ys) → All P ys
 all-back P [] ys all = all

@@ -67,7 +67,7 @@ pub fn step_all<J: Job, N: Naming>(
     ensures addons { env.new.core.env.addons ≡ env.old.core.env.addons }
     ensures limit { env.new.core.limit ≡ env.old.core.limit }
 
-    // Each thread made its script's calls, or a front of them where one stopped, and its end. Each worker's entries came by turns. All have ended.
+    // Each thread made its script's calls, or a prefix of them where one stopped, and its end. Each worker's entries came by turns. All have ended.
     ensures stands { All (IsActorOf N.numbers hub.new) actors.new.items }
     ensures same { AllZip IsSameActor actors.old.items actors.new.items }
     ensures over { All (λ a. is_over a ≡ true) actors.new.items }

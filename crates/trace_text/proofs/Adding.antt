@@ -6,7 +6,7 @@ use Rattle.std.specs.List.{flat_map}
 use Rattle.std.proofs.Math.Seq.{take-add}
 use Rattle.std.specs.declared.option.Option.{Option}
 use Rattle.std.specs.Io.KnownBytes.{append_known}
-use Rattle.napi_types.specs.plain.Edge.{HasRisen, TookFront}
+use Rattle.napi_types.specs.plain.Edge.{HasRisen, TookPrefix}
 use Rattle.trace_text.specs.Writing.{Adds, Waiting, Took, Stand, stand}
 
 -- what a sink took in two steps
@@ -24,9 +24,9 @@ put_step had t u at n bytes before step =
 
 -- a fault after the first bytes of a piece
 pub put_fault : (had t u : Option (List ℕ)) (at : ℕ) (bytes : List ℕ) → t ≡ append_known had (take at bytes) →
-    u ≡ append_known t [] → TookFront had bytes u
+    u ≡ append_known t [] → TookPrefix had bytes u
 put_fault had t u at bytes before step = record {
-  front = take at bytes;
+  prefix = take at bytes;
   rest = drop at bytes;
   whole_is = take-append-drop at bytes;
   took = step ∙ ap (λ o. append_known o []) before ∙ append_known-append had (take at bytes) [] ∙
@@ -81,21 +81,21 @@ adds_none a = record {
   counted = λ _. refl;
 }
 
--- bytes that a sink took a front of, and the others held, were added behind those held before
+-- bytes that a sink took a prefix of, and the others held, were added behind those held before
 pub adds_by : (a b : Stand) (bytes : List ℕ) → a.failed ≡ false → a.faults ≤ b.faults →
     (b.failed ≡ true → HasRisen a.faults b.faults) → (b.failed ≡ false → b.faults ≡ a.faults) → Took a.taken (a.held ++ bytes) b → Adds a bytes b
 adds_by a b bytes fine later marked counted took = record {
   goes_on = λ had before h.
-      let first = h.front in
-      let next = took.front in
+      let first = h.prefix in
+      let next = took.prefix in
       record {
-        front = record {
-          front = first.front ++ next.front;
+        prefix = record {
+          prefix = first.prefix ++ next.prefix;
           rest = next.rest;
-          whole_is = append_assoc first.front next.front next.rest ∙ ap (λ xs. first.front ++ xs) next.whole_is ∙
-              ap (λ xs. first.front ++ (xs ++ bytes)) (sym (h.waiting fine)) ∙
-              sym (append_assoc first.front first.rest bytes) ∙ ap (λ xs. xs ++ bytes) first.whole_is;
-          took = next.took ∙ ap (λ o. append_known o next.front) first.took ∙ append_known-append had first.front next.front;
+          whole_is = append_assoc first.prefix next.prefix next.rest ∙ ap (λ xs. first.prefix ++ xs) next.whole_is ∙
+              ap (λ xs. first.prefix ++ (xs ++ bytes)) (sym (h.waiting fine)) ∙
+              sym (append_assoc first.prefix first.rest bytes) ∙ ap (λ xs. xs ++ bytes) first.whole_is;
+          took = next.took ∙ ap (λ o. append_known o next.prefix) first.took ∙ append_known-append had first.prefix next.prefix;
         };
         waiting = took.waiting;
       };
@@ -112,7 +112,7 @@ append_known-nil (Some had) = ap Some (sym (append-nil had))
 -- nothing taken, and all held
 pub took_none : (now : Stand) → Took now.taken now.held now
 took_none now = record {
-  front = record { front = []; rest = now.held; whole_is = refl; took = append_known-nil now.taken };
+  prefix = record { prefix = []; rest = now.held; whole_is = refl; took = append_known-nil now.taken };
   waiting = λ _. refl;
 }
 
@@ -120,14 +120,14 @@ took_none now = record {
 pub took_all : (had : Option (List ℕ)) (bytes : List ℕ) (now : Stand) → now.held ≡ [] → now.taken ≡ append_known had bytes →
     Took had bytes now
 took_all had bytes now none taken = record {
-  front = record { front = bytes; rest = []; whole_is = append-nil bytes; took = taken };
+  prefix = record { prefix = bytes; rest = []; whole_is = append-nil bytes; took = taken };
   waiting = λ _. sym none;
 }
 
--- a front taken, where the writing failed
-pub took_front : (had : Option (List ℕ)) (bytes : List ℕ) (now : Stand) → now.failed ≡ true → TookFront had bytes now.taken →
+-- a prefix taken, where the writing failed
+pub took_prefix : (had : Option (List ℕ)) (bytes : List ℕ) (now : Stand) → now.failed ≡ true → TookPrefix had bytes now.taken →
     Took had bytes now
-took_front had bytes now failed front = record { front = front; waiting = λ fine. cc }
+took_prefix had bytes now failed prefix = record { prefix = prefix; waiting = λ fine. cc }
 
 -- bytes that are held behind the others
 pub adds_held : (taken : Option (List ℕ)) (faults : ℕ) (old new : Waiting) (bytes : List ℕ) →
@@ -136,12 +136,12 @@ adds_held taken faults old new bytes same =
     let P : Waiting → Type 0 = λ held. Adds (stand taken faults old) bytes (stand taken faults held) in
     subst P (sym same) (record {
       goes_on = λ had before h.
-          let first = h.front in
+          let first = h.prefix in
           record {
-            front = record {
-              front = first.front;
+            prefix = record {
+              prefix = first.prefix;
               rest = first.rest ++ bytes;
-              whole_is = sym (append_assoc first.front first.rest bytes) ∙ ap (λ xs. xs ++ bytes) first.whole_is;
+              whole_is = sym (append_assoc first.prefix first.rest bytes) ∙ ap (λ xs. xs ++ bytes) first.whole_is;
               took = first.took;
             };
             waiting = λ fine. ap (λ xs. xs ++ bytes) (h.waiting fine);
@@ -157,12 +157,12 @@ pub adds_lost : (taken : Option (List ℕ)) (faults : ℕ) (old new : Waiting) (
     Adds (stand taken faults old) bytes (stand taken faults new)
 adds_lost taken faults old new bytes before now = record {
   goes_on = λ had whole h.
-      let first = h.front in
+      let first = h.prefix in
       record {
-        front = record {
-          front = first.front;
+        prefix = record {
+          prefix = first.prefix;
           rest = first.rest ++ bytes;
-          whole_is = sym (append_assoc first.front first.rest bytes) ∙ ap (λ xs. xs ++ bytes) first.whole_is;
+          whole_is = sym (append_assoc first.prefix first.rest bytes) ∙ ap (λ xs. xs ++ bytes) first.whole_is;
           took = first.took;
         };
         waiting = λ fine. cc;
@@ -185,14 +185,14 @@ adds_written t u f g old new bytes whole fine same parts took counted =
 
 -- bytes at which the writing failed
 pub adds_cut : (t u : Option (List ℕ)) (f g : ℕ) (old new : Waiting) (bytes whole : List ℕ) → old.failed ≡ false →
-    new ≡ record { bytes = []; failed = true } → whole ≡ old.bytes ++ bytes → TookFront t whole u → f ≤ g → HasRisen f g →
+    new ≡ record { bytes = []; failed = true } → whole ≡ old.bytes ++ bytes → TookPrefix t whole u → f ≤ g → HasRisen f g →
     Adds (stand t f old) bytes (stand u g new)
 adds_cut t u f g old new bytes whole fine same parts took later risen =
     let P : Waiting → Type 0 = λ held. Adds (stand t f old) bytes (stand u g held) in
-    let Q : List ℕ → Type 0 = λ xs. TookFront t xs u in
+    let Q : List ℕ → Type 0 = λ xs. TookPrefix t xs u in
     let b = stand u g (record { bytes = []; failed = true }) in
     subst P (sym same) (adds_by (stand t f old) b bytes fine later (λ _. risen) (λ fine. cc)
-    (took_front t (old.bytes ++ bytes) b refl (subst Q parts took)))
+    (took_prefix t (old.bytes ++ bytes) b refl (subst Q parts took)))
 
 -- a text that was added and written out
 took_of : (had : Option (List ℕ)) (faults : ℕ) (first : Waiting) (mid end : Stand) (whole : List ℕ) →
@@ -209,15 +209,15 @@ pub adds_whole : (had : Option (List ℕ)) (faults : ℕ) (first : Waiting) (mid
     end.held ≡ [] → end.failed ≡ false → end.taken ≡ append_known had whole
 adds_whole had faults first mid end whole fresh adds out none fine =
     let took = took_of had faults first mid end whole fresh adds out in
-    let rest : took.front.rest ≡ [] = took.waiting fine ∙ none in
-    took.front.took ∙ ap (append_known had)
-    (sym (append-nil took.front.front) ∙ ap (λ xs. took.front.front ++ xs) (sym rest) ∙ took.front.whole_is)
+    let rest : took.prefix.rest ≡ [] = took.waiting fine ∙ none in
+    took.prefix.took ∙ ap (append_known had)
+    (sym (append-nil took.prefix.prefix) ∙ ap (λ xs. took.prefix.prefix ++ xs) (sym rest) ∙ took.prefix.whole_is)
 
--- and a front in any case
-pub adds_front : (had : Option (List ℕ)) (faults : ℕ) (first : Waiting) (mid end : Stand) (whole : List ℕ) →
+-- and a prefix in any case
+pub adds_prefix : (had : Option (List ℕ)) (faults : ℕ) (first : Waiting) (mid end : Stand) (whole : List ℕ) →
     first ≡ record { bytes = []; failed = false } → Adds (stand had faults first) whole mid → Adds mid [] end →
-    TookFront had whole end.taken
-adds_front had faults first mid end whole fresh adds out = (took_of had faults first mid end whole fresh adds out).front
+    TookPrefix had whole end.taken
+adds_prefix had faults first mid end whole fresh adds out = (took_of had faults first mid end whole fresh adds out).prefix
 
 -- and where the writing did not fail, no fault was counted
 pub adds_counted : (had : Option (List ℕ)) (faults : ℕ) (first : Waiting) (mid end : Stand) (whole : List ℕ) →

@@ -18,15 +18,15 @@ last-same (x ∷ xs) (y ∷ ys) a b e =
     (ap (λ z. z ∷ xs) head ∙ ap (λ zs. y ∷ zs) rest.0, rest.1)
 
 -- a number's last digit, and what stands before it
-next-of : (n : ℕ) (front : List ℕ) (b : ℕ) → n + 1 < 2 ^ 64 → front ++ (b ∷ []) ≡ decimal n → b < 57 →
-    (n < 10) ⊎ (10 ≤ n) → front ++ ((b + 1) ∷ []) ≡ decimal (n + 1)
-next-of n front b small same low (inl one) =
-    let parts = last-same front [] b (48 + n) (same ∙ decimal_digit n one) in
+next-of : (n : ℕ) (prefix : List ℕ) (b : ℕ) → n + 1 < 2 ^ 64 → prefix ++ (b ∷ []) ≡ decimal n → b < 57 →
+    (n < 10) ⊎ (10 ≤ n) → prefix ++ ((b + 1) ∷ []) ≡ decimal (n + 1)
+next-of n prefix b small same low (inl one) =
+    let parts = last-same prefix [] b (48 + n) (same ∙ decimal_digit n one) in
     let digit = parts.1 in
     ap (λ xs. xs ++ ((b + 1) ∷ [])) parts.0 ∙ ap (λ d. d ∷ []) (let e : b + 1 ≡ 48 + (n + 1) = omega arith in e) ∙
     sym (decimal_digit (n + 1) (omega arith))
-next-of n front b small same low (inr more) =
-    let parts = last-same front (decimal (n / 10)) b (48 + n % 10) (same ∙ decimal_step n more (omega arith)) in
+next-of n prefix b small same low (inr more) =
+    let parts = last-same prefix (decimal (n / 10)) b (48 + n % 10) (same ∙ decimal_step n more (omega arith)) in
     let digit = parts.1 in
     let tens : n / 10 ≡ (n + 1) / 10 = omega arith in
     let last : b + 1 ≡ 48 + (n + 1) % 10 = omega arith in
@@ -45,11 +45,11 @@ pub last-rises : (n count : ℕ) (digits : List ℕ) → n + 1 < 2 ^ 64 → coun
 last-rises n count digits small within same low =
     let some = some-digits n count digits (omega arith) same in
     let up : count ≡ count - 1 + 1 = omega arith in
-    let front : take (count - 1) digits ++ (get_or digits (count - 1) 0 ∷ []) ≡ decimal n =
+    let prefix : take (count - 1) digits ++ (get_or digits (count - 1) 0 ∷ []) ≡ decimal n =
     sym (take_more digits (count - 1) 0 (omega arith)) ∙ ap (λ k. take k digits) (sym up) ∙ same in
     ap (λ k. take k (set digits (count - 1) (get_or digits (count - 1) 0 + 1))) up ∙
     take_more_set digits (count - 1) (get_or digits (count - 1) 0 + 1) (omega arith) ∙
-    next-of n (take (count - 1) digits) (get_or digits (count - 1) 0) small front low (cases_lt n 10)
+    next-of n (take (count - 1) digits) (get_or digits (count - 1) 0) small prefix low (cases_lt n 10)
 
 -- of bytes that wait behind others only the digits of a number are kept
 pub digits-kept : (old mid new : Waiting) (digits : List ℕ) (end n : ℕ) → mid ≡ record old { bytes = old.bytes ++ digits } →

@@ -23,21 +23,21 @@ pub accepted_end : (texts : List (List ℕ)) (reply : Reply) → reply.status �
 unfolding digits
 accepted_end texts reply ok none = rw ok (untold (codes " 0 " ++ out_text texts reply.out) reply.dropped reply.made none)
 
--- a piece behind others, which stand behind a front
+-- a piece behind others, which stand behind a prefix
 behind : (p x y q : List ℕ) → p ++ x ≡ q → p ++ (x ++ y) ≡ q ++ y
-behind p x y q is = sym (append_assoc p x y) ∙ ap (λ front. front ++ y) is
+behind p x y q is = sym (append_assoc p x y) ∙ ap (λ prefix. prefix ++ y) is
 
--- seven pieces behind a front
+-- seven pieces behind a prefix
 seven_behind : (p a b c d e f g : List ℕ) → p ++ (a ++ b ++ c ++ d ++ e ++ f ++ g) ≡ p ++ a ++ b ++ c ++ d ++ e ++ f ++ g
 seven_behind p a b c d e f g =
     behind p (a ++ b ++ c ++ d ++ e ++ f) g _ (behind p (a ++ b ++ c ++ d ++ e) f _ (behind p (a ++ b ++ c ++ d) e _
     (behind p (a ++ b ++ c) d _ (behind p (a ++ b) c _ (behind p a b _ refl)))))
 
--- the end of a line behind its front
-pub line_of_end : (front : List ℕ) (texts : List (List ℕ)) (reply : Reply) →
-    front ++ line_end texts reply ≡
-    front ++ codes " " ++ decimal (status_number reply.status) ++ codes " " ++ out_text texts reply.out ++
+-- the end of a line behind its prefix
+pub line_of_end : (prefix : List ℕ) (texts : List (List ℕ)) (reply : Reply) →
+    prefix ++ line_end texts reply ≡
+    prefix ++ codes " " ++ decimal (status_number reply.status) ++ codes " " ++ out_text texts reply.out ++
     marked (codes " -") reply.dropped ++ marked (codes " +") reply.made ++ codes "\n"
-line_of_end front texts reply =
-    seven_behind front (codes " ") (decimal (status_number reply.status)) (codes " ") (out_text texts reply.out)
+line_of_end prefix texts reply =
+    seven_behind prefix (codes " ") (decimal (status_number reply.status)) (codes " ") (out_text texts reply.out)
     (marked (codes " -") reply.dropped) (marked (codes " +") reply.made) (codes "\n")

@@ -78,9 +78,9 @@ few xs short = record {
 pub few-one : (x : Entry) → AreCountable (counts_of (x ∷ []))
 few-one x = few (x ∷ []) (omega arith)
 
--- a front of a history
-pub few-front : (xs : List Entry) (i : ℕ) → length xs ≤ most_entries → AreCountable (counts_of (take i xs))
-few-front xs i short = few (take i xs) (omega (arith, length-take i xs))
+-- a prefix of a history
+pub few-prefix : (xs : List Entry) (i : ℕ) → length xs ≤ most_entries → AreCountable (counts_of (take i xs))
+few-prefix xs i short = few (take i xs) (omega (arith, length-take i xs))
 
 -- no more entries of a journal stand in a weave than it has
 placed-le : (last : ℕ) (journal : List Local) → length (placed last journal) ≤ length journal
@@ -89,7 +89,7 @@ placed-le last journal =
     let all : length (placed last journal) ≡ length (filter test journal) = length-map (filter test journal) (λ (l : Local). l.entry) in
     omega (arith, length-filter test journal, count_by-le-length test journal)
 
--- those of a front of a journal
+-- those of a prefix of a journal
 pub few-placed : (last i : ℕ) (journal : List Local) → length journal ≤ most_entries → AreCountable (counts_of (placed last (take i journal)))
 few-placed last i journal short = few (placed last (take i journal)) (omega (arith, placed-le last (take i journal), length-take i journal))
 

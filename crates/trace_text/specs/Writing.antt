@@ -1,7 +1,7 @@
 -- Writing a text piece by piece, through bytes that are held back, to a sink that may fail on the way.
 use Rattle.std.specs.Prelude.{◌≡◌, ℕ, ◌≤◌, Bool, true, false, List, ◌++◌}
 use Rattle.std.specs.declared.option.Option.{Option}
-use Rattle.napi_types.specs.plain.Edge.{HasRisen, TookFront}
+use Rattle.napi_types.specs.plain.Edge.{HasRisen, TookPrefix}
 
 -- the bytes that wait to be written, and whether the writing failed
 pub record Waiting : Type 0 where
@@ -19,10 +19,10 @@ pub record Stand : Type 0 where
 abbrev pub stand : Option (List ℕ) → ℕ → Waiting → Stand
 stand taken faults pending = record { taken = taken; faults = faults; held = pending.bytes; failed = pending.failed }
 
--- of these bytes the sink took a front after what it had, and all the others are held where the writing did not fail
+-- of these bytes the sink took a prefix after what it had, and all the others are held where the writing did not fail
 pub record Took (had : Option (List ℕ)) (bytes : List ℕ) (now : Stand) : Type 0 where
-  pub front : TookFront had bytes now.taken
-  pub waiting : now.failed ≡ false → front.rest ≡ now.held
+  pub prefix : TookPrefix had bytes now.taken
+  pub waiting : now.failed ≡ false → prefix.rest ≡ now.held
 
 -- bytes were added to the text, in full or, where the writing failed, up to some place. A writing that failed adds
 -- nothing more. It failed only where the count of faults rose, and one that did not fail leaves the count as it was.

@@ -1,5 +1,5 @@
 //! Writes the text of a trace, or its summary, to a sink, without memory.
-//! Contracts see what the sink took: the whole text or summary, or at a fault a front of it. The program's runs stand above.
+//! Contracts see what the sink took: the whole text or summary, or at a fault a prefix of it. The program's runs stand above.
 #![tactic(auto)]
 
 mod counts;

@@ -1,7 +1,7 @@
 //! The summary of a trace.
 ghost use Rattle.std.specs.Prelude.{◌≡◌, ◌≤◌, length, OnOk, OnErr};
 ghost use Rattle.std.specs.Io.KnownBytes.{append_known};
-ghost use Rattle.napi_types.specs.plain.Edge.{HasRisen, TookFront};
+ghost use Rattle.napi_types.specs.plain.Edge.{HasRisen, TookPrefix};
 ghost use Rattle.napi_types.specs.plain.Room.{most_entries};
 ghost use Rattle.napi_types.specs.plain.Weave.{weave};
 ghost use Rattle.napi_types.specs.scripts.Summary.{number_line, summary};
@@ -16,7 +16,7 @@ use napi_types::{Entry, Failed, Local, Sink};
 /// Writes the summary of a trace: twelve lines on the entries of the weave of a journal and a history, each of at most
 /// 4,194,304 entries. It takes no memory, and counts each list by itself, since no number depends on the order.
 ///
-/// A fault of the sink ends it, after a front of the summary.
+/// A fault of the sink ends it, after a prefix of the summary.
 pub fn write_summary<K: Sink>(
     sink: &mut K,
     journal: &[Local],
@@ -27,7 +27,7 @@ pub fn write_summary<K: Sink>(
     ensures ok { OnOk result (K.taken sink.new ≡
         append_known (K.taken sink.old) (summary (weave journal.now history.now))) }
     ensures err { OnErr result
-        (TookFront (K.taken sink.old) (summary (weave journal.now history.now)) (K.taken sink.new)) }
+        (TookPrefix (K.taken sink.old) (summary (weave journal.now history.now)) (K.taken sink.new)) }
     ensures failed { OnErr result (HasRisen (K.faults sink.old) (K.faults sink.new)) }
     ensures counted { OnOk result (K.faults sink.new ≡ K.faults sink.old) }
     ensures faults { K.faults sink.old ≤ K.faults sink.new }

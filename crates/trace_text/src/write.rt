@@ -1,7 +1,7 @@
 //! The text of a whole trace.
 ghost use Rattle.std.specs.Prelude.{◌≡◌, ◌≤◌, IsTrue, length, OnOk, OnErr};
 ghost use Rattle.std.specs.Io.KnownBytes.{append_known};
-ghost use Rattle.napi_types.specs.plain.Edge.{HasRisen, TookFront};
+ghost use Rattle.napi_types.specs.plain.Edge.{HasRisen, TookPrefix};
 ghost use Rattle.napi_types.specs.plain.Room.{most_entries};
 ghost use Rattle.napi_types.specs.plain.Weave.{weave, RisesBetween};
 ghost use Rattle.napi_types.specs.scripts.Text.{text};
@@ -16,7 +16,7 @@ use napi_types::{Entry, Failed, Local, Sink, Texts};
 /// 4,194,304 entries. It takes no memory, and holds up to 32,768 bytes back until it writes them.
 ///
 /// It first looks whether the journal stands in the order of its places. Where it does, it takes time in the length of the text.
-/// A fault of the sink ends it, after a front of the text.
+/// A fault of the sink ends it, after a prefix of the text.
 pub fn write_trace<K: Sink>(
     sink: &mut K,
     texts: &Texts,
@@ -28,7 +28,7 @@ pub fn write_trace<K: Sink>(
     ensures ok { OnOk result (K.taken sink.new ≡
         append_known (K.taken sink.old) (text texts.now (weave journal.now history.now))) }
     ensures err { OnErr result
-        (TookFront (K.taken sink.old) (text texts.now (weave journal.now history.now)) (K.taken sink.new)) }
+        (TookPrefix (K.taken sink.old) (text texts.now (weave journal.now history.now)) (K.taken sink.new)) }
     ensures failed { OnErr result (HasRisen (K.faults sink.old) (K.faults sink.new)) }
     ensures counted { OnOk result (K.faults sink.new ≡ K.faults sink.old) }
     ensures faults { K.faults sink.old ≤ K.faults sink.new }
@@ -51,7 +51,7 @@ pub fn write_rising_trace<K: Sink>(
     ensures ok { OnOk result (K.taken sink.new ≡
         append_known (K.taken sink.old) (text texts.now (weave journal.now history.now))) }
     ensures err { OnErr result
-        (TookFront (K.taken sink.old) (text texts.now (weave journal.now history.now)) (K.taken sink.new)) }
+        (TookPrefix (K.taken sink.old) (text texts.now (weave journal.now history.now)) (K.taken sink.new)) }
     ensures failed { OnErr result (HasRisen (K.faults sink.old) (K.faults sink.new)) }
     ensures counted { OnOk result (K.faults sink.new ≡ K.faults sink.old) }
     ensures faults { K.faults sink.old ≤ K.faults sink.new }
@@ -73,7 +73,7 @@ fn write_woven<K: Sink>(
     ensures ok { OnOk result (K.taken sink.new ≡
         append_known (K.taken sink.old) (text texts.now (weave journal.now history.now))) }
     ensures err { OnErr result
-        (TookFront (K.taken sink.old) (text texts.now (weave journal.now history.now)) (K.taken sink.new)) }
+        (TookPrefix (K.taken sink.old) (text texts.now (weave journal.now history.now)) (K.taken sink.new)) }
     ensures failed { OnErr result (HasRisen (K.faults sink.old) (K.faults sink.new)) }
     ensures counted { OnOk result (K.faults sink.new ≡ K.faults sink.old) }
     ensures faults { K.faults sink.old ≤ K.faults sink.new }

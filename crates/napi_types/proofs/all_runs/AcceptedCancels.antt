@@ -131,10 +131,10 @@ last-cancelled os k =
     ∙ or_right (list_any (λ (o : Outcome). (k == o.work) && is_cancelled o.status) os) _ (ap (λ b. (b && true) || false) (same-self k))
 
 pub accepted-cancels : AcceptedCancelsCancel
-accepted-cancels s bs cs a xs ys x w front whole is accepted =
+accepted-cancels s bs cs a xs ys x w prefix whole is accepted =
     let m : Machine = final_of s bs xs in
-    let k : Accountable s.limits m = run-accountable s.limits (opening_of s) bs xs (opens-well s) front in
-    let later : IsRunBy m (a ∷ cs) (x ∷ ys) = later-run (opening_of s) bs (a ∷ cs) xs (x ∷ ys) front whole.run.steps in
+    let k : Accountable s.limits m = run-accountable s.limits (opening_of s) bs xs (opens-well s) prefix in
+    let later : IsRunBy m (a ∷ cs) (x ∷ ys) = later-run (opening_of s) bs (a ∷ cs) xs (x ∷ ys) prefix whole.run.steps in
     let next : IsNext m a x = later.0 in
     let case : StepCase m (step m a x) = step-case m a x k.orderly.stage next in
     let c : CancelsWork m.hub w (after m a x).hub =
@@ -145,14 +145,14 @@ accepted-cancels s bs cs a xs ys x w front whole is accepted =
     let stands : is_cancelled_in waits.number (after m a x).hub ≡ true =
     subst (λ (g : Hub). is_cancelled_in waits.number g ≡ true) (sym (c.now ∙ ap (λ o. in_pool (cancelled_at o) m.hub) number))
     (last-cancelled m.hub.pool.finished waits.number) in
-    let now : final_of s (bs ++ a ∷ []) (xs ++ x ∷ []) ≡ after m a x = final-more (opening_of s) bs xs a x front in
+    let now : final_of s (bs ++ a ∷ []) (xs ++ x ∷ []) ≡ after m a x = final-more (opening_of s) bs xs a x prefix in
     let split : (bs ++ a ∷ []) ++ cs ≡ bs ++ a ∷ cs = append_assoc bs (a ∷ []) cs in
     let parts : (xs ++ x ∷ []) ++ ys ≡ xs ++ x ∷ ys = append_assoc xs (x ∷ []) ys in
     record {
       number = waits.number;
       queued = number;
       once = subst (λ l. IsCancelledOnce waits.number l) parts
-          (cancelled-once s (bs ++ a ∷ []) cs (xs ++ x ∷ []) ys waits.number (run-more (opening_of s) bs xs a x front next)
+          (cancelled-once s (bs ++ a ∷ []) cs (xs ++ x ∷ []) ys waits.number (run-more (opening_of s) bs xs a x prefix next)
           (subst (λ l. EndsBy s ((bs ++ a ∷ []) ++ cs) l) (sym parts) (subst (λ l. EndsBy s l (xs ++ x ∷ ys)) (sym split) whole))
           (subst (λ (n : Machine). is_cancelled_in waits.number n.hub ≡ true) (sym now) stands));
     }

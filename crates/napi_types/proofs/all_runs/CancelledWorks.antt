@@ -118,14 +118,14 @@ counted-once p (o ∷ os) is = by (p o) refl is (counted-once p os)
         omega (arith, first, later)
 
 pub cancelled-once : CancelledWorksNeverStart
-cancelled-once s bs cs xs ys n front whole stands =
+cancelled-once s bs cs xs ys n prefix whole stands =
     let m : Machine = final_of s bs xs in
-    let a : Accountable s.limits m = run-accountable s.limits (opening_of s) bs xs (opens-accountable s) front in
+    let a : Accountable s.limits m = run-accountable s.limits (opening_of s) bs xs (opens-accountable s) prefix in
     let some : 1 ≤ cancelled_in n m.hub.pool = counted-once (is_cancelled_work n) m.hub.pool.finished stands in
     let kept : cancelled_in n m.hub.pool ≤ cancelled_in n (final m cs ys).hub.pool + begun_cancelled (duty.Work n) ys =
-    run-keeps n s.limits m cs ys a (later-run (opening_of s) bs cs xs ys front whole.run.steps) in
+    run-keeps n s.limits m cs ys a (later-run (opening_of s) bs cs xs ys prefix whole.run.steps) in
     let none : cancelled_in n (final m cs ys).hub.pool ≡ 0 =
-    ap (λ (k : Machine). cancelled_in n k.hub.pool) (sym (later-final (opening_of s) bs cs xs ys front))
+    ap (λ (k : Machine). cancelled_in n k.hub.pool) (sym (later-final (opening_of s) bs cs xs ys prefix))
     ∙ none-counted (is_cancelled_work n) (final_of s (bs ++ cs) (xs ++ ys)).hub.pool.finished (final-empty s (bs ++ cs) (xs ++ ys) whole).finished in
     let sum : begun_cancelled (duty.Work n) (xs ++ ys) ≡ begun_cancelled (duty.Work n) xs + begun_cancelled (duty.Work n) ys = tally-append (begins_cancelled n) xs ys in
     let told : TellsStarts (duty.Work n) (xs ++ ys) = starts-told s (bs ++ cs) (xs ++ ys) n whole in

@@ -1,4 +1,4 @@
--- Where a journal and a front of the history are a run, and others went on from there, the journal and the whole history are a run.
+-- Where a journal and a prefix of the history are a run, and others went on from there, the journal and the whole history are a run.
 use Rattle.std.proofs.Common.{◌≡◌, ◌∙◌, ℕ, ◌+◌, suc, false, List, [], ◌∷◌, ◌++◌, length, length-append, IsTrue, refl, ap, sym, subst, None, arith, append_assoc}
 use Rattle.std.proofs.lemmas.List.{append-nil}
 use Rattle.std.proofs.lemmas.List.Elements.{All-head, All-tail}
@@ -74,30 +74,32 @@ Others x = is_environment x.actor ≡ false
 other-side : (m : Machine) (a : Ask) (x : Entry) → is_environment x.actor ≡ false → (step m a x).side ≡ History
 other-side m a x other = ap (λ (s : Step). s.side) (others-step m a x x.actor other)
 
-module _ (s : Setting) (asks : List Ask) (journal : List Local) (front : List Entry) (x : Entry) (rest : List Entry) where
+module _ (s : Setting) (asks : List Ask) (journal : List Local) (prefix : List Entry) (x : Entry) (rest : List Entry) where
   -- the run, with the entry at its end
-  joined-more : AreJoined s asks journal front (x ∷ rest) → AreJoined s (asks ++ ask.Leave None ∷ []) journal (front ++ x ∷ []) rest
+  joined-more : AreJoined s asks journal prefix (x ∷ rest) → AreJoined s (asks ++ ask.Leave None ∷ []) journal (prefix ++ x ∷ []) rest
   joined-more j =
-      let m : Machine = final_of s asks (weave journal front) in
+      let m : Machine = final_of s asks (weave journal prefix) in
       let other : is_environment x.actor ≡ false = All-head Others x rest j.others.others in
       let next : IsNext m (ask.Leave None) x = others-next m x other j.others.replays.0 j.others.replays.1 in
-      let longer : weave journal (front ++ x ∷ []) ≡ weave journal front ++ x ∷ [] = weave-shared journal front x j.rises in
-      let steps : IsRunBy (opening_of s) (asks ++ ask.Leave None ∷ []) (weave journal front ++ x ∷ []) = run-more (opening_of s) asks (weave journal front) (ask.Leave None) x j.run.steps next in
-      let now : final_of s (asks ++ ask.Leave None ∷ []) (weave journal front ++ x ∷ []) ≡ after m (ask.Leave None) x =
-      final-more (opening_of s) asks (weave journal front) (ask.Leave None) x j.run.steps in
+      let longer : weave journal (prefix ++ x ∷ []) ≡ weave journal prefix ++ x ∷ [] = weave-shared journal prefix x j.rises in
+      let steps : IsRunBy (opening_of s) (asks ++ ask.Leave None ∷ []) (weave journal prefix ++ x ∷ []) = run-more (opening_of s) asks (weave journal prefix)
+      (ask.Leave None) x j.run.steps next in
+      let now : final_of s (asks ++ ask.Leave None ∷ []) (weave journal prefix ++ x ∷ []) ≡ after m (ask.Leave None) x =
+      final-more (opening_of s) asks (weave journal prefix) (ask.Leave None) x j.run.steps in
       let moved : after m (ask.Leave None) x ≡ (other_step m x).after = ap (λ (t : Step). t.after) (others-step m (ask.Leave None) x x.actor other) in
-      let planned : asks ++ ask.Leave None ∷ [] ≡ planned_asks s (asks ++ ask.Leave None ∷ []) (weave journal front ++ x ∷ []) =
-      sym (asked-more s.plans (loaded_registers s.plans) (opening_of s) asks (weave journal front) (ask.Leave None) x j.run.steps
-      ∙ ap (λ l. planned_asks s asks (weave journal front) ++ l ∷ []) (others-ask s.plans (final_registers s asks (weave journal front)) m (ask.Leave None) x.actor other)
+      let planned : asks ++ ask.Leave None ∷ [] ≡ planned_asks s (asks ++ ask.Leave None ∷ []) (weave journal prefix ++ x ∷ []) =
+      sym (asked-more s.plans (loaded_registers s.plans) (opening_of s) asks (weave journal prefix) (ask.Leave None) x j.run.steps
+      ∙ ap (λ l. planned_asks s asks (weave journal prefix) ++ l ∷ [])
+      (others-ask s.plans (final_registers s asks (weave journal prefix)) m (ask.Leave None) x.actor other)
       ∙ ap (λ l. l ++ ask.Leave None ∷ []) (sym j.run.asked)) in
-      let sided : sides_along (opening_of s) (asks ++ ask.Leave None ∷ []) (weave journal front ++ x ∷ []) ≡ sides journal (front ++ x ∷ []) =
-      sides-more (opening_of s) asks (weave journal front) (ask.Leave None) x j.run.steps
-      ∙ ap (λ t. sides_along (opening_of s) asks (weave journal front) ++ t ∷ []) (other-side m (ask.Leave None) x other)
-      ∙ ap (λ ts. ts ++ History ∷ []) j.parted ∙ sym (sides-shared journal front x j.rises) in
+      let sided : sides_along (opening_of s) (asks ++ ask.Leave None ∷ []) (weave journal prefix ++ x ∷ []) ≡ sides journal (prefix ++ x ∷ []) =
+      sides-more (opening_of s) asks (weave journal prefix) (ask.Leave None) x j.run.steps
+      ∙ ap (λ t. sides_along (opening_of s) asks (weave journal prefix) ++ t ∷ []) (other-side m (ask.Leave None) x other)
+      ∙ ap (λ ts. ts ++ History ∷ []) j.parted ∙ sym (sides-shared journal prefix x j.rises) in
       record {
         run = subst (λ ys. RunsBy s (asks ++ ask.Leave None ∷ []) ys) (sym longer) (record { steps = steps; asked = planned });
-        rises = rises-more 0 (length front) (length (front ++ x ∷ [])) journal (omega (arith, length-append front (x ∷ []))) j.rises;
-        parted = subst (λ ys. sides_along (opening_of s) (asks ++ ask.Leave None ∷ []) ys ≡ sides journal (front ++ x ∷ [])) (sym longer) sided;
+        rises = rises-more 0 (length prefix) (length (prefix ++ x ∷ [])) journal (omega (arith, length-append prefix (x ∷ []))) j.rises;
+        parted = subst (λ ys. sides_along (opening_of s) (asks ++ ask.Leave None ∷ []) ys ≡ sides journal (prefix ++ x ∷ [])) (sym longer) sided;
         others = subst (λ ys. OthersGoOn (final_of s (asks ++ ask.Leave None ∷ []) ys) rest) (sym longer)
             (subst (λ (n : Machine). OthersGoOn n rest) (sym (now ∙ moved)) (record { others = All-tail Others x rest j.others.others; replays = j.others.replays.2 }));
       }
@@ -143,46 +145,49 @@ gone_on-more m x rest = ap (λ n. record m { hub = hub_along m.hub (x ∷ rest);
     right n k = omega arith
 
 pub others-join : OthersJoin
-others-join s asks journal front [] j =
-    let same : front ++ [] ≡ front = append-nil front in
+others-join s asks journal prefix [] j =
+    let same : prefix ++ [] ≡ prefix = append-nil prefix in
     let none : asks ++ [] ≡ asks = append-nil asks in
     record {
-      run = subst (λ bs. RunsBy s bs (weave journal (front ++ []))) (sym none) (subst (λ ks. RunsBy s asks (weave journal ks)) (sym same) j.run);
+      run = subst (λ bs. RunsBy s bs (weave journal (prefix ++ []))) (sym none) (subst (λ ks. RunsBy s asks (weave journal ks)) (sym same) j.run);
       rises = subst (λ ks. RisesBetween 0 (length ks) journal) (sym same) j.rises;
-      parted = subst (λ bs. IsParted (opening_of s) bs journal (front ++ [])) (sym none) (subst (λ ks. IsParted (opening_of s) asks journal ks) (sym same) j.parted);
-      machine = ap (λ bs. final_of s bs (weave journal (front ++ []))) none ∙ ap (λ ks. final_of s asks (weave journal ks)) same
-          ∙ gone_on-none (final_of s asks (weave journal front));
-      begun = ap (λ bs. begun_along (opening_of s) bs (weave journal (front ++ []))) none ∙ ap (λ ks. begun_along (opening_of s) asks (weave journal ks)) same;
-      registers = ap (λ bs. final_registers s bs (weave journal (front ++ []))) none ∙ ap (λ ks. final_registers s asks (weave journal ks)) same;
-      placed = λ placed. subst (λ bs. StandInPlace (opening_of s) None bs (weave journal (front ++ []))) (sym none)
+      parted = subst (λ bs. IsParted (opening_of s) bs journal (prefix ++ [])) (sym none)
+          (subst (λ ks. IsParted (opening_of s) asks journal ks) (sym same) j.parted);
+      machine = ap (λ bs. final_of s bs (weave journal (prefix ++ []))) none ∙ ap (λ ks. final_of s asks (weave journal ks)) same
+          ∙ gone_on-none (final_of s asks (weave journal prefix));
+      begun = ap (λ bs. begun_along (opening_of s) bs (weave journal (prefix ++ []))) none ∙ ap (λ ks. begun_along (opening_of s) asks (weave journal ks)) same;
+      registers = ap (λ bs. final_registers s bs (weave journal (prefix ++ []))) none ∙ ap (λ ks. final_registers s asks (weave journal ks)) same;
+      placed = λ placed. subst (λ bs. StandInPlace (opening_of s) None bs (weave journal (prefix ++ []))) (sym none)
           (subst (λ ks. StandInPlace (opening_of s) None asks (weave journal ks)) (sym same) placed);
     }
-others-join s asks journal front (x ∷ rest) j =
-    let more : GoesOnJoined s (asks ++ ask.Leave None ∷ []) journal (front ++ x ∷ []) rest =
-    others-join s (asks ++ ask.Leave None ∷ []) journal (front ++ x ∷ []) rest (joined-more s asks journal front x rest j) in
+others-join s asks journal prefix (x ∷ rest) j =
+    let more : GoesOnJoined s (asks ++ ask.Leave None ∷ []) journal (prefix ++ x ∷ []) rest =
+    others-join s (asks ++ ask.Leave None ∷ []) journal (prefix ++ x ∷ []) rest (joined-more s asks journal prefix x rest j) in
     let other : is_environment x.actor ≡ false = All-head Others x rest j.others.others in
-    let lists : (front ++ x ∷ []) ++ rest ≡ front ++ x ∷ rest = append_assoc front (x ∷ []) rest in
+    let lists : (prefix ++ x ∷ []) ++ rest ≡ prefix ++ x ∷ rest = append_assoc prefix (x ∷ []) rest in
     let asked : with_others (asks ++ ask.Leave None ∷ []) rest ≡ with_others asks (x ∷ rest) = append_assoc asks (ask.Leave None ∷ []) _ in
-    let longer : weave journal (front ++ x ∷ []) ≡ weave journal front ++ x ∷ [] = weave-shared journal front x j.rises in
+    let longer : weave journal (prefix ++ x ∷ []) ≡ weave journal prefix ++ x ∷ [] = weave-shared journal prefix x j.rises in
     record {
-      run = subst (λ bs. RunsBy s bs (weave journal (front ++ x ∷ rest))) asked (subst (λ ks. RunsBy s (with_others (asks ++ ask.Leave None ∷ []) rest) (weave journal ks)) lists more.run);
+      run = subst (λ bs. RunsBy s bs (weave journal (prefix ++ x ∷ rest))) asked
+          (subst (λ ks. RunsBy s (with_others (asks ++ ask.Leave None ∷ []) rest) (weave journal ks)) lists more.run);
       rises = subst (λ ks. RisesBetween 0 (length ks) journal) lists more.rises;
-      parted = subst (λ bs. IsParted (opening_of s) bs journal (front ++ x ∷ rest)) asked
+      parted = subst (λ bs. IsParted (opening_of s) bs journal (prefix ++ x ∷ rest)) asked
           (subst (λ ks. IsParted (opening_of s) (with_others (asks ++ ask.Leave None ∷ []) rest) journal ks) lists more.parted);
-      machine = ap (λ bs. final_of s bs (weave journal (front ++ x ∷ rest))) (sym asked)
+      machine = ap (λ bs. final_of s bs (weave journal (prefix ++ x ∷ rest))) (sym asked)
           ∙ ap (λ ks. final_of s (with_others (asks ++ ask.Leave None ∷ []) rest) (weave journal ks)) (sym lists)
           ∙ more.machine
-          ∙ ap (gone_on rest) (ap (λ ys. final_of s (asks ++ ask.Leave None ∷ []) ys) longer ∙ machine-next s asks (weave journal front) x j.run.steps other)
-          ∙ gone_on-more (final_of s asks (weave journal front)) x rest;
-      begun = ap (λ bs. begun_along (opening_of s) bs (weave journal (front ++ x ∷ rest))) (sym asked)
+          ∙ ap (gone_on rest) (ap (λ ys. final_of s (asks ++ ask.Leave None ∷ []) ys) longer ∙ machine-next s asks (weave journal prefix) x j.run.steps other)
+          ∙ gone_on-more (final_of s asks (weave journal prefix)) x rest;
+      begun = ap (λ bs. begun_along (opening_of s) bs (weave journal (prefix ++ x ∷ rest))) (sym asked)
           ∙ ap (λ ks. begun_along (opening_of s) (with_others (asks ++ ask.Leave None ∷ []) rest) (weave journal ks)) (sym lists)
           ∙ more.begun ∙ ap (λ ys. begun_along (opening_of s) (asks ++ ask.Leave None ∷ []) ys) longer
-          ∙ begun-same s asks (weave journal front) x j.run.steps other j.others.replays.0;
-      registers = ap (λ bs. final_registers s bs (weave journal (front ++ x ∷ rest))) (sym asked)
+          ∙ begun-same s asks (weave journal prefix) x j.run.steps other j.others.replays.0;
+      registers = ap (λ bs. final_registers s bs (weave journal (prefix ++ x ∷ rest))) (sym asked)
           ∙ ap (λ ks. final_registers s (with_others (asks ++ ask.Leave None ∷ []) rest) (weave journal ks)) (sym lists)
-          ∙ more.registers ∙ ap (λ ys. final_registers s (asks ++ ask.Leave None ∷ []) ys) longer ∙ registers-same s asks (weave journal front) x j.run.steps other;
-      placed = λ placed. subst (λ bs. StandInPlace (opening_of s) None bs (weave journal (front ++ x ∷ rest))) asked
+          ∙ more.registers ∙ ap (λ ys. final_registers s (asks ++ ask.Leave None ∷ []) ys) longer ∙ registers-same s asks
+          (weave journal prefix) x j.run.steps other;
+      placed = λ placed. subst (λ bs. StandInPlace (opening_of s) None bs (weave journal (prefix ++ x ∷ rest))) asked
           (subst (λ ks. StandInPlace (opening_of s) None (with_others (asks ++ ask.Leave None ∷ []) rest) (weave journal ks)) lists
           (more.placed (subst (λ ys. StandInPlace (opening_of s) None (asks ++ ask.Leave None ∷ []) ys) (sym longer)
-          (placed-next s asks (weave journal front) x j.run.steps other placed))));
+          (placed-next s asks (weave journal prefix) x j.run.steps other placed))));
     }

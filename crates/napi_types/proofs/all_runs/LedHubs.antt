@@ -1,4 +1,4 @@
--- The history of a run leads to its hub. Where others went on behind a front, the environment and the hub are joined.
+-- The history of a run leads to its hub. Where others went on behind a prefix, the environment and the hub are joined.
 use Rattle.std.proofs.Common.{◌≡◌, ◌∙◌, ℕ, suc, ◌+◌, ◌==◌, Bool, true, false, not, ◌&&◌, List, [], ◌∷◌, ◌++◌, length, map, filter, IsTrue, refl, ap, sym, subst, arith, Option, Some, None}
 use Rattle.napi_types.specs.declared.call.Ask.{Ask}
 use Rattle.napi_types.specs.declared.call.Call.{Call}
@@ -40,11 +40,11 @@ use Rattle.napi_types.specs.runs.Parting.{IsParted, sides_along}
 use Rattle.napi_types.specs.runs.Run.{IsRunBy, after, final}
 use Rattle.napi_types.specs.runs.Setting.{Setting, opening_of, final_of}
 use Rattle.napi_types.specs.runs.Step.{Step, shared, ticket_step, move_step, event_step, end_step_on, shared_call_step, has_room, step}
-use Rattle.napi_types.specs.all_runs.HubLaws.{FrontsJoin, HistoriesLeadToTheirHub}
+use Rattle.napi_types.specs.all_runs.HubLaws.{PrefixesJoin, HistoriesLeadToTheirHub}
 use Rattle.napi_types.proofs.plain.Conditions.{and-left, and-right}
 use Rattle.napi_types.proofs.plain.Tallies.{none-more}
 use Rattle.napi_types.proofs.environment.FrameEnds.{ended-ends}
-use Rattle.napi_types.proofs.hub.GrowingHistories.{fronts-replay}
+use Rattle.napi_types.proofs.hub.GrowingHistories.{prefixes-replay}
 use Rattle.napi_types.proofs.hub.HubKeeps.{hub_step-what}
 use Rattle.napi_types.proofs.runs.CallRooms.{shared-room}
 use Rattle.napi_types.proofs.runs.Forms as form
@@ -269,8 +269,8 @@ histories-lead s asks journal history run parted =
     record { replays = k.replays; hub = k.hub }
 
 -- FRONTS
-pub fronts-join : FrontsJoin
-fronts-join s asks journal front rest h run rises parted led others = record {
+pub prefixes-join : PrefixesJoin
+prefixes-join s asks journal prefix rest h run rises parted led others = record {
   run = run;
   rises = rises;
   parted = parted;
@@ -278,17 +278,17 @@ fronts-join s asks journal front rest h run rises parted led others = record {
 }
   where
     m : Machine
-    m = final_of s asks (weave journal front)
+    m = final_of s asks (weave journal prefix)
 
-    k : Leads (opening_of s) front m
-    k = woven-leads s asks journal front run.steps parted
+    k : Leads (opening_of s) prefix m
+    k = woven-leads s asks journal prefix run.steps parted
 
-    counted : m.history_length ≡ length front
-    counted = k.counted ∙ none-more (length front)
+    counted : m.history_length ≡ length prefix
+    counted = k.counted ∙ none-more (length prefix)
 
     replays : HubReplays m.limits.history m.hub m.history_length rest
     replays =
         subst (λ (l : Limits). HubReplays l.history m.hub m.history_length rest) (sym k.limits)
         (subst (λ g. HubReplays s.limits.history g m.history_length rest) k.hub
-        (subst (λ n. HubReplays s.limits.history (hub_along (new_hub s.threads s.workers) front) n rest) (sym counted)
-        (fronts-replay s.limits.history s.threads s.workers front rest h led).replays))
+        (subst (λ n. HubReplays s.limits.history (hub_along (new_hub s.threads s.workers) prefix) n rest) (sym counted)
+        (prefixes-replay s.limits.history s.threads s.workers prefix rest h led).replays))

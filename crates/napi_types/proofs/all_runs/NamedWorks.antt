@@ -204,18 +204,18 @@ run-told w s bs xs run =
 
 -- a run of entries that stand behind others is in two parts
 record InTwoParts (m : Machine) (bs : List Ask) (xs ys : List Entry) : Type 0 where
-  pub front : List Ask
+  pub prefix : List Ask
   pub rest : List Ask
-  pub whole : front ++ rest ≡ bs
-  pub run : IsRunBy m front xs
-  pub later : IsRunBy (final m front xs) rest ys
+  pub whole : prefix ++ rest ≡ bs
+  pub run : IsRunBy m prefix xs
+  pub later : IsRunBy (final m prefix xs) rest ys
 
 parts-of : (m : Machine) (bs : List Ask) (xs ys : List Entry) → IsRunBy m bs (xs ++ ys) → InTwoParts m bs xs ys
-parts-of m bs [] ys run = record { front = []; rest = bs; whole = refl; run = tt; later = run }
+parts-of m bs [] ys run = record { prefix = []; rest = bs; whole = refl; run = tt; later = run }
 parts-of m [] (x ∷ xs) ys run = absurd run
 parts-of m (b ∷ bs) (x ∷ xs) ys run =
     let k : InTwoParts (after m b x) bs xs ys = parts-of (after m b x) bs xs ys run.1 in
-    record { front = b ∷ k.front; rest = k.rest; whole = ap (λ l. b ∷ l) k.whole; run = (run.0, k.run); later = k.later }
+    record { prefix = b ∷ k.prefix; rest = k.rest; whole = ap (λ l. b ∷ l) k.whole; run = (run.0, k.run); later = k.later }
 
 -- one cancel ..
 cancel-told : (s : Setting) (bs : List Ask) (xs ys : List Entry) (x : Entry) (w : WorkId) → EndsBy s bs (xs ++ x ∷ ys)
@@ -225,13 +225,13 @@ cancel-told s bs xs ys x w whole is accepted = by k.rest k.whole k.later
     k : InTwoParts (opening_of s) bs xs (x ∷ ys)
     k = parts-of (opening_of s) bs xs (x ∷ ys) whole.run.steps
 
-    by : (rest : List Ask) → k.front ++ rest ≡ bs → IsRunBy (final (opening_of s) k.front xs) rest (x ∷ ys)
+    by : (rest : List Ask) → k.prefix ++ rest ≡ bs → IsRunBy (final (opening_of s) k.prefix xs) rest (x ∷ ys)
         → CancelsLastQueued w xs (xs ++ x ∷ ys)
     by [] split later = absurd later
     by (a ∷ cs) split later =
-        let c : LeadsToCancelled s k.front xs w (xs ++ x ∷ ys) =
-        accepted-cancels s k.front cs a xs ys x w k.run (subst (λ l. EndsBy s l (xs ++ x ∷ ys)) (sym split) whole) is accepted in
-        record { number = c.number; queued = run-told w.0 s k.front xs k.run c.number c.queued; once = c.once }
+        let c : LeadsToCancelled s k.prefix xs w (xs ++ x ∷ ys) =
+        accepted-cancels s k.prefix cs a xs ys x w k.run (subst (λ l. EndsBy s l (xs ++ x ∷ ys)) (sym split) whole) is accepted in
+        record { number = c.number; queued = run-told w.0 s k.prefix xs k.run c.number c.queued; once = c.once }
 
 -- .. and all of them
 pub cancels-told : CancelsAreTold

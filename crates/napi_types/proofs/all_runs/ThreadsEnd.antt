@@ -19,7 +19,7 @@ use Rattle.napi_types.specs.runs.Machine.{Machine}
 use Rattle.napi_types.specs.runs.Run.{IsRunBy, final}
 use Rattle.napi_types.specs.runs.Setting.{Setting, opening_of, final_of}
 use Rattle.napi_types.specs.runs.Step.{has_room, step_of}
-use Rattle.napi_types.specs.all_runs.HubLaws.{ThreadsComeToTheirEnd, ThreadsKeepAsOthersGoOn, FrontsOfThreadsKeep}
+use Rattle.napi_types.specs.all_runs.HubLaws.{ThreadsComeToTheirEnd, ThreadsKeepAsOthersGoOn, PrefixesOfThreadsKeep}
 use Rattle.napi_types.proofs.plain.Conditions.{and-right}
 use Rattle.napi_types.proofs.plain.Found.{same-tells}
 use Rattle.napi_types.proofs.hub.ThreadEnds.{step-left, step-threads, LeftSo}
@@ -27,7 +27,7 @@ use Rattle.napi_types.proofs.runs.HubsOfRuns.{hub-kept, env-kept}
 use Rattle.napi_types.proofs.runs.Runs.{along-entries}
 use Rattle.napi_types.proofs.all_runs.HistoryRooms.{HubRoomy, HistorySuffices, hub-run, opening-hub}
 use Rattle.napi_types.proofs.all_runs.Rooms.{final-stage}
-use Rattle.napi_types.proofs.all_runs.Scripts.{scripts-stay, fronts-keep}
+use Rattle.napi_types.proofs.all_runs.Scripts.{scripts-stay, prefixes-keep}
 
 -- ALONG A RUN
 of-left : (t : ℕ) (m : Machine) (a : Ask) (x : Entry) (left : Option (List Call)) (who : Actor) → x.actor ≡ who → IsTrue (step_of m a x who).may → LeftSo t m.hub left
@@ -123,8 +123,8 @@ threads-keep-on s scripts history rest others keep = record {
   each = λ t operations there. scripts-stay s t operations history rest (none-of t rest others) (keep.each t operations there);
 }
 
-pub fronts-of-threads-keep : FrontsOfThreadsKeep
-fronts-of-threads-keep s scripts front rest keep = record {
+pub prefixes-of-threads-keep : PrefixesOfThreadsKeep
+prefixes-of-threads-keep s scripts prefix rest keep = record {
   count = keep.count;
-  each = λ t operations there. fronts-keep s t operations front rest (keep.each t operations there);
+  each = λ t operations there. prefixes-keep s t operations prefix rest (keep.each t operations there);
 }

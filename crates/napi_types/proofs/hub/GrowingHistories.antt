@@ -1,9 +1,9 @@
--- A history that grows at its end, and its fronts.
+-- A history that grows at its end, and its prefixes.
 use Rattle.std.proofs.Common.{◌≡◌, ◌∙◌, ℕ, ◌+◌, suc, List, [], ◌∷◌, ◌++◌, length, IsTrue, refl, ap, sym, subst, arith}
 use Rattle.napi_types.specs.declared.entry.Entry.{Entry}
 use Rattle.napi_types.specs.plain.Lists.{one}
 use Rattle.napi_types.specs.plain.Room.{fits_in}
-use Rattle.napi_types.specs.hub.HistoryLaws.{LeadsTo, FrontsReplay}
+use Rattle.napi_types.specs.hub.HistoryLaws.{LeadsTo, PrefixesReplay}
 use Rattle.napi_types.specs.hub.HistoryRoom.{history_room}
 use Rattle.napi_types.specs.hub.Hub.{Hub, new_hub}
 use Rattle.napi_types.specs.hub.HubSteps.{IsHubNext, hub_step, hub_along}
@@ -43,34 +43,34 @@ leads-more limit threads workers history h x led next fits = record {
     zero-left n = omega arith
 
 -- FRONTS
-along-parts : (h : Hub) (front rest : List Entry) → hub_along h (front ++ rest) ≡ hub_along (hub_along h front) rest
+along-parts : (h : Hub) (prefix rest : List Entry) → hub_along h (prefix ++ rest) ≡ hub_along (hub_along h prefix) rest
 along-parts h [] rest = refl
-along-parts h (x ∷ front) rest = along-parts (hub_step h x).after front rest
+along-parts h (x ∷ prefix) rest = along-parts (hub_step h x).after prefix rest
 
-front-replays : (limit : ℕ) (h : Hub) (n : ℕ) (front rest : List Entry) → HubReplays limit h n (front ++ rest) → HubReplays limit h n front
-front-replays limit h n [] rest replays = tt
-front-replays limit h n (x ∷ front) rest replays = (replays.0, replays.1, front-replays limit (hub_step h x).after (n + 1) front rest replays.2)
+prefix-replays : (limit : ℕ) (h : Hub) (n : ℕ) (prefix rest : List Entry) → HubReplays limit h n (prefix ++ rest) → HubReplays limit h n prefix
+prefix-replays limit h n [] rest replays = tt
+prefix-replays limit h n (x ∷ prefix) rest replays = (replays.0, replays.1, prefix-replays limit (hub_step h x).after (n + 1) prefix rest replays.2)
 
-replays-behind : (limit : ℕ) (h : Hub) (n : ℕ) (front rest : List Entry) → HubReplays limit h n (front ++ rest)
-    → HubReplays limit (hub_along h front) (n + length front) rest
+replays-behind : (limit : ℕ) (h : Hub) (n : ℕ) (prefix rest : List Entry) → HubReplays limit h n (prefix ++ rest)
+    → HubReplays limit (hub_along h prefix) (n + length prefix) rest
 replays-behind limit h n [] rest replays = subst (λ k. HubReplays limit h k rest) (same n) replays
   where
     same : (k : ℕ) → k ≡ k + 0
     same k = omega arith
-replays-behind limit h n (x ∷ front) rest replays =
-    subst (λ k. HubReplays limit (hub_along (hub_step h x).after front) k rest) (same n (length front))
-    (replays-behind limit (hub_step h x).after (n + 1) front rest replays.2)
+replays-behind limit h n (x ∷ prefix) rest replays =
+    subst (λ k. HubReplays limit (hub_along (hub_step h x).after prefix) k rest) (same n (length prefix))
+    (replays-behind limit (hub_step h x).after (n + 1) prefix rest replays.2)
   where
     same : (k l : ℕ) → k + 1 + l ≡ k + suc l
     same k l = omega arith
 
-pub fronts-replay : FrontsReplay
-fronts-replay limit threads workers front rest h led = record {
-  leads = record { replays = front-replays limit (new_hub threads workers) 0 front rest led.replays; hub = refl };
+pub prefixes-replay : PrefixesReplay
+prefixes-replay limit threads workers prefix rest h led = record {
+  leads = record { replays = prefix-replays limit (new_hub threads workers) 0 prefix rest led.replays; hub = refl };
   replays =
-      subst (λ n. HubReplays limit (hub_along (new_hub threads workers) front) n rest) (zero-more (length front))
-      (replays-behind limit (new_hub threads workers) 0 front rest led.replays);
-  hub = sym (along-parts (new_hub threads workers) front rest) ∙ led.hub;
+      subst (λ n. HubReplays limit (hub_along (new_hub threads workers) prefix) n rest) (zero-more (length prefix))
+      (replays-behind limit (new_hub threads workers) 0 prefix rest led.replays);
+  hub = sym (along-parts (new_hub threads workers) prefix rest) ∙ led.hub;
 }
   where
     zero-more : (n : ℕ) → 0 + n ≡ n

@@ -19,16 +19,16 @@ use Rattle.napi_types.specs.runs.Run.{IsRunBy}
 use Rattle.napi_types.specs.runs.Setting.{Setting, RunsBy, EndsBy, opening_of, final_of}
 use Rattle.napi_types.specs.all_runs.Joined.{AreJoined, GoesOnJoined}
 
--- where the journal and the front of a history that replays at the hub are a run, and the entries behind that front are others', the two are joined
-abbrev pub FrontsJoin : Type 0
-FrontsJoin = (s : Setting) (asks : List Ask) (journal : List Local) (front rest : List Entry) (h : Hub)
-    → RunsBy s asks (weave journal front) → RisesBetween 0 (length front) journal → IsParted (opening_of s) asks journal front
-    → LeadsTo s.limits.history s.threads s.workers (front ++ rest) h → All (λ x. is_environment x.actor ≡ false) rest
-    → AreJoined s asks journal front rest
+-- where the journal and the prefix of a history that replays at the hub are a run, and the entries behind that prefix are others', the two are joined
+abbrev pub PrefixesJoin : Type 0
+PrefixesJoin = (s : Setting) (asks : List Ask) (journal : List Local) (prefix rest : List Entry) (h : Hub)
+    → RunsBy s asks (weave journal prefix) → RisesBetween 0 (length prefix) journal → IsParted (opening_of s) asks journal prefix
+    → LeadsTo s.limits.history s.threads s.workers (prefix ++ rest) h → All (λ x. is_environment x.actor ≡ false) rest
+    → AreJoined s asks journal prefix rest
 
 -- where the environment and the hub are joined, the journal and the whole history are a run, and all but the hub is as it was
 abbrev pub OthersJoin : Type 0
-OthersJoin = (s : Setting) (asks : List Ask) (journal : List Local) (front rest : List Entry) → AreJoined s asks journal front rest → GoesOnJoined s asks journal front rest
+OthersJoin = (s : Setting) (asks : List Ask) (journal : List Local) (prefix rest : List Entry) → AreJoined s asks journal prefix rest → GoesOnJoined s asks journal prefix rest
 
 -- every hub to which a run comes is the one to which its history leads
 abbrev pub HistoriesLeadToTheirHub : Type 0
@@ -49,27 +49,29 @@ AddonsAreTheScripts = (s : Setting) (bs : List Ask) (xs : List Entry) → IsRunB
 abbrev pub KeepsScript : Setting → ℕ → List Op → List Entry → Type 0
 KeepsScript s t operations history = KeepsScriptFrom s.limits.history t (opening_of s).hub 0 0 (Some (thread_calls operations)) history
 
--- each thread of the setting keeps its script, which these are in the threads' order. A clause on a run in which threads take part has this beside `RunsBy`: the
--- machine lets a thread end cut at any time, and only its script says whether it may
+-- each thread of the setting keeps its script, which these are in the threads' order. A clause on a run in which threads take part has this beside `RunsBy`:
+-- the machine lets a thread end cut at any time, and only its script says whether it may
 pub record ThreadsKeep (s : Setting) (scripts : List (List Op)) (history : List Entry) : Type 0 where
   pub count : length scripts ≡ s.threads
   pub each : (t : ℕ) (operations : List Op) → slice_get scripts t ≡ Some operations → KeepsScript s t operations history
 
--- a history that keeps the script of a thread keeps it as other actors go on, and so does each front of it
+-- a history that keeps the script of a thread keeps it as other actors go on, and so does each prefix of it
 abbrev pub ScriptsStayAsOthersGoOn : Type 0
 ScriptsStayAsOthersGoOn = (s : Setting) (t : ℕ) (operations : List Op) (history rest : List Entry) → All (λ x. is_thread t x.actor ≡ false) rest
     → KeepsScript s t operations history → KeepsScript s t operations (history ++ rest)
 
-abbrev pub FrontsKeepScripts : Type 0
-FrontsKeepScripts = (s : Setting) (t : ℕ) (operations : List Op) (front rest : List Entry) → KeepsScript s t operations (front ++ rest) → KeepsScript s t operations front
+abbrev pub PrefixesKeepScripts : Type 0
+PrefixesKeepScripts =
+    (s : Setting) (t : ℕ) (operations : List Op) (prefix rest : List Entry) → KeepsScript s t operations (prefix ++ rest) → KeepsScript s t operations prefix
 
--- so do all threads: entries of workers and of the environment behind a history leave what it keeps, and each front of it keeps the scripts
+-- so do all threads: entries of workers and of the environment behind a history leave what it keeps, and each prefix of it keeps the scripts
 abbrev pub ThreadsKeepAsOthersGoOn : Type 0
 ThreadsKeepAsOthersGoOn = (s : Setting) (scripts : List (List Op)) (history rest : List Entry) → All (λ x. (t : ℕ) → is_thread t x.actor ≡ false) rest
     → ThreadsKeep s scripts history → ThreadsKeep s scripts (history ++ rest)
 
-abbrev pub FrontsOfThreadsKeep : Type 0
-FrontsOfThreadsKeep = (s : Setting) (scripts : List (List Op)) (front rest : List Entry) → ThreadsKeep s scripts (front ++ rest) → ThreadsKeep s scripts front
+abbrev pub PrefixesOfThreadsKeep : Type 0
+PrefixesOfThreadsKeep =
+    (s : Setting) (scripts : List (List Op)) (prefix rest : List Entry) → ThreadsKeep s scripts (prefix ++ rest) → ThreadsKeep s scripts prefix
 
 -- in every run to its end each thread has come to its end: none of its calls is left to speak of
 abbrev pub ThreadsComeToTheirEnd : Type 0

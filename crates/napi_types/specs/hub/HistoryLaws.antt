@@ -42,16 +42,16 @@ pub record LeadsTo (limit threads workers : ℕ) (history : List Entry) (h : Hub
   pub replays : HubReplays limit (new_hub threads workers) 0 history
   pub hub : hub_along (new_hub threads workers) history ≡ h
 
--- a history in two parts: its front has led to a hub, and what stands behind it replays from there on, to this hub
-pub record GoesOnBehind (limit threads workers : ℕ) (front rest : List Entry) (h : Hub) : Type 0 where
-  pub leads : LeadsTo limit threads workers front (hub_along (new_hub threads workers) front)
-  pub replays : HubReplays limit (hub_along (new_hub threads workers) front) (length front) rest
-  pub hub : hub_along (hub_along (new_hub threads workers) front) rest ≡ h
+-- a history in two parts: its prefix has led to a hub, and what stands behind it replays from there on, to this hub
+pub record GoesOnBehind (limit threads workers : ℕ) (prefix rest : List Entry) (h : Hub) : Type 0 where
+  pub leads : LeadsTo limit threads workers prefix (hub_along (new_hub threads workers) prefix)
+  pub replays : HubReplays limit (hub_along (new_hub threads workers) prefix) (length prefix) rest
+  pub hub : hub_along (hub_along (new_hub threads workers) prefix) rest ≡ h
 
--- a history that has led to a hub may be parted so behind each front of it
-abbrev pub FrontsReplay : Type 0
-FrontsReplay = (limit threads workers : ℕ) (front rest : List Entry) (h : Hub) → LeadsTo limit threads workers (front ++ rest) h
-    → GoesOnBehind limit threads workers front rest h
+-- a history that has led to a hub may be parted so behind each prefix of it
+abbrev pub PrefixesReplay : Type 0
+PrefixesReplay = (limit threads workers : ℕ) (prefix rest : List Entry) (h : Hub) → LeadsTo limit threads workers (prefix ++ rest) h
+    → GoesOnBehind limit threads workers prefix rest h
 
 -- there no entry of a thread or a worker lowers the sum of the history's entries and reserved places
 abbrev pub OthersLowerNothing : Type 0

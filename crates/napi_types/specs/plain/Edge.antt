@@ -19,12 +19,12 @@ abbrev pub bytes_moved : {E : Type 0} → Result ℕ E → List ℕ → List ℕ
 bytes_moved (Ok n) piece = take n piece
 bytes_moved (Err e) piece = []
 
--- a sink took a front of these bytes after what it had
-pub record TookFront (had : Option (List ℕ)) (bytes : List ℕ) (has : Option (List ℕ)) : Type 0 where
-  pub front : List ℕ
+-- a sink took a prefix of these bytes after what it had
+pub record TookPrefix (had : Option (List ℕ)) (bytes : List ℕ) (has : Option (List ℕ)) : Type 0 where
+  pub prefix : List ℕ
   pub rest : List ℕ
-  pub whole_is : front ++ rest ≡ bytes
-  pub took : has ≡ append_known had front
+  pub whole_is : prefix ++ rest ≡ bytes
+  pub took : has ≡ append_known had prefix
 
 -- which calls of an end in memory are to fail (counted from 0), how many were made, how many failed
 pub record CallPlan : Type 0 where

@@ -1,4 +1,4 @@
-//! Bytes and traces through short writes, and what a sink has where a write failed: a front.
+//! Bytes and traces through short writes, and what a sink has where a write failed: a prefix.
 ghost use Rattle.std.specs.Prelude.{◌<◌, ◌≤◌, length};
 ghost use Rattle.napi_types.specs.plain.Room.{most_entries};
 
@@ -32,8 +32,8 @@ fn bytes_pass_through_short_writes_until_a_fault(rt: HostRuntime) {
     check_put(&rt, rt.alloc(), 1, false, b"hell");
 }
 
-/// How much such a sink has of the trace of calls, where that is not written in full, and what the sink has is a front of a text.
-fn front_length(
+/// How much such a sink has of the trace of calls, where that is not written in full, and what the sink has is a prefix of a text.
+fn prefix_length(
     rt: &impl Abort,
     alloc: Global,
     greatest: usize,
@@ -51,24 +51,24 @@ fn front_length(
 }
 
 #[test]
-fn a_fault_at_the_second_call_leaves_a_front_of_the_trace(rt: HostRuntime) {
+fn a_fault_at_the_second_call_leaves_a_prefix_of_the_trace(rt: HostRuntime) {
     let history = [collect(Out::Nothing); 2];
-    let found = front_length(&rt, rt.alloc(), 16, 1, &history, b"1 env collect 0 -\n");
+    let found = prefix_length(&rt, rt.alloc(), 16, 1, &history, b"1 env collect 0 -\n");
     assert_eq!(rt; found, Some(16));
 }
 
 // The trace of four thousand calls has 82,893 bytes, which take three calls.
 #[test]
-fn a_fault_leaves_a_front_of_a_long_trace(rt: HostRuntime) {
+fn a_fault_leaves_a_prefix_of_a_long_trace(rt: HostRuntime) {
     let history = [collect(Out::Nothing); 4000];
     let mut whole = MemSink::new(rt.alloc(), 100_000, Vec::new(rt.alloc()));
     let is_written = write(&rt, rt.alloc(), &mut whole, &[], &history);
-    let mut are_fronts = true;
+    let mut are_prefixes = true;
     for failing in 0..3 {
-        let found = front_length(&rt, rt.alloc(), 100_000, failing, &history, whole.bytes());
-        are_fronts &= found.is_some();
+        let found = prefix_length(&rt, rt.alloc(), 100_000, failing, &history, whole.bytes());
+        are_prefixes &= found.is_some();
     }
-    let found = (is_written, whole.bytes().len(), are_fronts);
+    let found = (is_written, whole.bytes().len(), are_prefixes);
     assert_eq!(rt; found, (true, 82_893, true));
 }
 

@@ -11,14 +11,14 @@ use Rattle.napi_types.specs.runs.Step.{Step, ticket_step, event_step, end_step_o
 use Rattle.napi_types.proofs.runs.Forms.{Form, ends, happens, form-of}
 use Rattle.machine_laws.specs.RunLaws.{GrowsOn, EntriesCountOnTheirList, OthersLeaveRegisters}
 use Rattle.machine_laws.proofs.Computing.{run-of, computes-of}
-use Rattle.machine_laws.proofs.Fronts.{fronts-are-runs}
+use Rattle.machine_laws.proofs.Prefixes.{prefixes-are-runs}
 use Rattle.machine_laws.proofs.runs.runs.Goals as goal
 
 pub returns-clause-computed : goal.returns-clause-computed
 returns-clause-computed c = λ m bs xs. (computes-of m bs xs, run-of m bs xs)
 
-pub returns-clause-fronts : goal.returns-clause-fronts
-returns-clause-fronts c = fronts-are-runs
+pub returns-clause-prefixes : goal.returns-clause-prefixes
+returns-clause-prefixes c = prefixes-are-runs
 
 -- a step that may stand leaves one entry more on its list
 abbrev Counts : Machine → Step → Type 0

@@ -4,7 +4,7 @@ use Rattle.addon_trait.proofs.SamePlans.{plans-then}
 use Rattle.env_loop.specs.ActorTurns.{is_over, IsActorAt}
 use Rattle.stepper.specs.GivenTurns.{Moment}
 use Rattle.stepper.proofs.Openings.{start-stands, gone-over, ended-at-last, arose-at-last}
-use Rattle.stepper.proofs.RoundSteps.{all-turns, all-front, all-back, schedule-steps, rounds-steps}
+use Rattle.stepper.proofs.RoundSteps.{all-turns, all-prefix, all-back, schedule-steps, rounds-steps}
 use Rattle.stepper.proofs.stepping.step_all.Goals as goal
 
 pub give_turns-requires-clause-stands : goal.give_turns-requires-clause-stands
@@ -12,7 +12,8 @@ give_turns-requires-clause-stands g c κs within = start-stands _ _ _ c.requires
 
 pub give_turns-requires-clause-scheduled : goal.give_turns-requires-clause-scheduled
 give_turns-requires-clause-scheduled g c κs within =
-    all-front (IsActorAt g.N.Naming.numbers) _ _ (subst (All (IsActorAt g.N.Naming.numbers)) c.around_opening.ensures (all-turns (IsActorAt g.N.Naming.numbers) _ c.requires.scheduled))
+    all-prefix (IsActorAt g.N.Naming.numbers) _ _
+    (subst (All (IsActorAt g.N.Naming.numbers)) c.around_opening.ensures (all-turns (IsActorAt g.N.Naming.numbers) _ c.requires.scheduled))
 
 pub give_turns-requires-2-clause-scheduled : goal.give_turns-requires-2-clause-scheduled
 give_turns-requires-2-clause-scheduled g c κs within =

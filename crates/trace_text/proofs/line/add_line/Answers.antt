@@ -10,6 +10,6 @@ pub returns : goal.returns
 returns g c =
     let what = rw (c.as_bytes.ensures.value, c.name.ensures) at c.add.ensures in
     let entry = c.args.entry.now in
-    let front = decimal c.args.number.now ++ codes " " ++ actor_text entry.actor ++ codes " " ++ what_name entry.what in
-    rw (sym (line_of_end front c.args.texts.now entry.reply)) (adds_then (adds_then
+    let prefix = decimal c.args.number.now ++ codes " " ++ actor_text entry.actor ++ codes " " ++ what_name entry.what in
+    rw (sym (line_of_end prefix c.args.texts.now entry.reply)) (adds_then (adds_then
     (adds_between (codes " ") (actor_text entry.actor) c.add_line_number.ensures c.add_actor.ensures) what) c.add_end.ensures)

@@ -1,10 +1,10 @@
 use Rattle.std.proofs.Common.{sym, ◌∙◌}
-use Rattle.trace_text.proofs.Adding.{adds_whole, adds_front, adds_counted}
+use Rattle.trace_text.proofs.Adding.{adds_whole, adds_prefix, adds_counted}
 use Rattle.trace_text.proofs.write.write_woven.Goals as goal
 
 pub returns-then-has_failed-clause-err : goal.returns-then-has_failed-clause-err
 returns-then-has_failed-clause-err g c =
-    adds_front _ _ _ _ _ _ c.new-pending.ensures c.add_trace.ensures c.write_out.ensures.added
+    adds_prefix _ _ _ _ _ _ c.new-pending.ensures c.add_trace.ensures c.write_out.ensures.added
 
 pub returns-else-has_failed-clause-ok : goal.returns-else-has_failed-clause-ok
 returns-else-has_failed-clause-ok g c =
