@@ -5,7 +5,7 @@ use Rattle.napi_types.specs.declared.entry.Reply.{Reply}
 use Rattle.napi_types.specs.declared.entry.Entry.{Entry}
 use Rattle.napi_types.specs.parts.Frames.{Frame, asks_made}
 use Rattle.napi_types.specs.environment.Calls.{answer}
-use Rattle.napi_types.specs.environment.Changes.{with_noted_status, call_change, call_entry, number_of}
+use Rattle.napi_types.specs.environment.Changes.{with_noted_status, call_change, call_entry, issued_number}
 use Rattle.napi_types.specs.environment.Environment.{Environment}
 use Rattle.napi_types.proofs.environment.AnswersKeep.{answer-keeps}
 use Rattle.env_core.specs.Journal.{told_entry}
@@ -19,11 +19,11 @@ after-call_change e mid new c n r q m h = h ∙ ap (λ x. with_noted_status c x.
 pub calls-told : (old mid new : Environment) (c : Call) (r : Reply) (x : Entry) → Answers old c r mid → x ≡ call_entry mid c r → new ≡ with_noted_status c r.status mid → Calls old c x new
 calls-told old mid new c r x k e h =
     let P : Entry → Type 0 = λ y. Calls old c y new in
-    let same : mid.frames ≡ old.frames = ap (λ (s : Environment). s.frames) k.after ∙ (answer-keeps old c (number_of r.out)).frames in
+    let same : mid.frames ≡ old.frames = ap (λ (s : Environment). s.frames) k.after ∙ (answer-keeps old c (issued_number r.out)).frames in
     subst P (sym e) (record {
       fresh = k.fresh;
       entry = ap (λ (fs : List Frame). told_entry (length fs) (asks_made fs) c r) same ∙ ap (λ q. call_entry old c q) k.reply;
-      after = after-call_change old mid new c (number_of r.out) r k.reply k.after h;
+      after = after-call_change old mid new c (issued_number r.out) r k.reply k.after h;
     })
 
 -- the call was answered, its status noted and its ask counted
@@ -31,9 +31,9 @@ pub calls-noted : (old mid new : Environment) (c : Call) (r : Reply) → Answers
 calls-noted old mid new c r k h = record {
   fresh = k.fresh;
   entry = ap (λ q. call_entry old c q) k.reply;
-  after = after-call_change old mid new c (number_of r.out) r k.reply k.after h;
+  after = after-call_change old mid new c (issued_number r.out) r k.reply k.after h;
 }
 
 -- as many asks were made once it was answered
 pub asks-answered : (old mid : Environment) (c : Call) (r : Reply) → Answers old c r mid → asks_made mid.frames ≡ asks_made old.frames
-asks-answered old mid c r k = ap (λ (s : Environment). asks_made s.frames) k.after ∙ ap asks_made (answer-keeps old c (number_of r.out)).frames
+asks-answered old mid c r k = ap (λ (s : Environment). asks_made s.frames) k.after ∙ ap asks_made (answer-keeps old c (issued_number r.out)).frames

@@ -25,7 +25,7 @@ use Rattle.napi_types.specs.parts.ScopeChanges.{hold_in}
 use Rattle.napi_types.specs.parts.Scopes.{gives}
 use Rattle.napi_types.specs.parts.Values.{undefined_value}
 use Rattle.napi_types.specs.environment.Calls.{answer_unless, answer_unless_deep, answer}
-use Rattle.napi_types.specs.environment.Changes.{number_of}
+use Rattle.napi_types.specs.environment.Changes.{issued_number}
 use Rattle.napi_types.specs.environment.Environment.{Environment, with_heap, TsfnRoot}
 use Rattle.napi_types.specs.environment.ExceptionCalls.{with_pending, with_thrown_error}
 use Rattle.napi_types.specs.environment.Moments.{refusal_by_moment}
@@ -52,8 +52,8 @@ given-answer e c n h = ap (answer_unless_deep e c n (refusal_before_depth e c)) 
 answers-in-time : (e new : Environment) (c : Call) (r : Reply) → is_calling c ≡ false → None ≡ refusal_by_moment e c → AnswersInTime e c r new
     → Answers e c r new
 answers-in-time e new c r other h a =
-    let same : answer_unless e c (number_of r.out) (refusal_by_state e c) ≡ answer e c (number_of r.out) =
-    ap (λ o. answer_unless e c (number_of r.out) (option_or o (refusal_by_state e c))) h ∙ given-answer e c (number_of r.out) other in
+    let same : answer_unless e c (issued_number r.out) (refusal_by_state e c) ≡ answer e c (issued_number r.out) =
+    ap (λ o. answer_unless e c (issued_number r.out) (option_or o (refusal_by_state e c))) h ∙ given-answer e c (issued_number r.out) other in
     record {
       fresh = a.fresh;
       reply = a.reply ∙ ap (λ (x : Answer Environment). x.reply) same;

@@ -26,7 +26,7 @@ use Rattle.napi_types.specs.parts.Book.{Book, Registration, is_registered, is_du
 use Rattle.napi_types.specs.parts.Frames.{Frame, asks_made, caller_of, cause_of, duty_of, is_hub_duty, local_frames}
 use Rattle.napi_types.specs.parts.Hooks.{last_hook}
 use Rattle.napi_types.specs.environment.Calls.{answer_unless_deep}
-use Rattle.napi_types.specs.environment.Changes.{call_change, call_entry, number_of, book_in, in_phase}
+use Rattle.napi_types.specs.environment.Changes.{call_change, call_entry, issued_number, book_in, in_phase}
 use Rattle.napi_types.specs.environment.Ends.{end_change_by, outermost_end_change, end_change}
 use Rattle.napi_types.specs.environment.Entering.{is_entering}
 use Rattle.napi_types.specs.environment.Environment.{Environment}
@@ -79,14 +79,14 @@ core-pushed old new pages after x k c e promised room handles scopes references 
 -- what a call keeps, by its entry
 pub calls-keep : (old new : Environment) (c : Call) (x : Entry) → Calls old c x new → KeepsButAsk c old x.reply new
 calls-keep old new c x calls =
-    let n : ℕ = number_of x.reply.out in
+    let n : ℕ = issued_number x.reply.out in
     let P : Entry → Type 0 = λ y. KeepsButAsk c old y.reply (call_change old c n).after in
     let Q : Environment → Type 0 = λ e. KeepsButAsk c old x.reply e in
     subst Q (sym calls.after) (subst P (sym calls.entry) (call_change-keeps old c n))
 
 -- and that the hooks fit the book
 pub calls-hooked : (old new : Environment) (c : Call) (x : Entry) → Calls old c x new → IsHooked old → IsHooked new
-calls-hooked old new c x calls h = subst (λ (e : Environment). IsHooked e) (sym calls.after) (hooked-called old c (number_of x.reply.out) h)
+calls-hooked old new c x calls h = subst (λ (e : Environment). IsHooked e) (sym calls.after) (hooked-called old c (issued_number x.reply.out) h)
 
 -- a call of a function withdraws nothing
 called-drops : (e : Environment) (receiver : Option HandleId) (f : HandleId) (args : Args) (n : ℕ) (early deep : Option Status)
@@ -102,7 +102,7 @@ called-places e receiver f args x new promised calls =
     let c : Call = call.CallFunction receiver f args in
     let places : 1 + 2 * one_if (is_some x.reply.made) ≤ 2 = (calls-keep e new c x calls).makes.places in
     let drops : x.reply.dropped ≡ None =
-    ap (λ (y : Entry). y.reply.dropped) calls.entry ∙ called-drops e receiver f args (number_of x.reply.out) (refusal_before_depth e c)
+    ap (λ (y : Entry). y.reply.dropped) calls.entry ∙ called-drops e receiver f args (issued_number x.reply.out) (refusal_before_depth e c)
     (depth_refusal e.frames c) in
     let none : one_if (is_some x.reply.dropped) ≡ 0 = ap (λ o. one_if (is_some o)) drops in
     omega (arith, places, none)
@@ -284,7 +284,7 @@ replied env new pages after a c x k e once fits calls = record {
   after =
       after_change-as env new pages after a x k e
       ∙ ap (λ y. after_change (record { entry = y; after = new }) (core_of env pages a)) calls.entry
-      ∙ ap (λ s. after_change (record { entry = (call_change env c (number_of x.reply.out)).entry; after = s }) (core_of env pages a)) calls.after;
+      ∙ ap (λ s. after_change (record { entry = (call_change env c (issued_number x.reply.out)).entry; after = s }) (core_of env pages a)) calls.after;
 }
 
 -- the entry of a call, where it tells how many frames stand and the number of the ask

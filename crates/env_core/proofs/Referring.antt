@@ -20,7 +20,7 @@ use Rattle.napi_types.specs.parts.HeapChanges.{with_handle, handle_of}
 use Rattle.napi_types.specs.parts.ReferenceRefusals.{references_of, count_refusal, reference_refusal}
 use Rattle.napi_types.specs.parts.References.{Reference, ReferenceMap, has_reference, reference_at, referred_value, reference_count, with_reference, without_reference, with_count}
 use Rattle.napi_types.specs.environment.Calls.{effect, answer_unless}
-use Rattle.napi_types.specs.environment.Changes.{number_of, is_fresh_result}
+use Rattle.napi_types.specs.environment.Changes.{issued_number, is_fresh_result}
 use Rattle.napi_types.specs.environment.Environment.{Environment, in_heap}
 use Rattle.napi_types.specs.environment.ReferenceCalls.{counted_up, value_told}
 use Rattle.napi_types.specs.environment.Refusals.{refusal_by_state}
@@ -116,9 +116,10 @@ refused-timely e c s why = record {
 
 -- one that is accepted, whatever duties its reply tells
 pub replied-timely : (e new : Environment) (c : Call) (r : Reply) → refusal_by_state e c ≡ None → is_fresh_result e r.out ≡ true
-    → effect e c (number_of r.out) ≡ record { reply = r; after = new } → AnswersInTime e c r new
+    → effect e c (issued_number r.out) ≡ record { reply = r; after = new } → AnswersInTime e c r new
 replied-timely e new c r none fresh is =
-    let answer : answer_unless e c (number_of r.out) (refusal_by_state e c) ≡ record { reply = r; after = new } = ap (answer_unless e c (number_of r.out)) none
+    let answer : answer_unless e c (issued_number r.out) (refusal_by_state e c) ≡ record { reply = r; after = new } = ap
+    (answer_unless e c (issued_number r.out)) none
     ∙ is in
     record {
       fresh = fresh;
@@ -128,7 +129,7 @@ replied-timely e new c r none fresh is =
 
 -- the same where it tells none
 pub accepted-timely : (e new : Environment) (c : Call) (o : Out) → refusal_by_state e c ≡ None → is_fresh_result e o ≡ true
-    → effect e c (number_of o) ≡ accepts o new → AnswersInTime e c (plain status.Ok o) new
+    → effect e c (issued_number o) ≡ accepts o new → AnswersInTime e c (plain status.Ok o) new
 accepted-timely e new c o none fresh is = replied-timely e new c (plain status.Ok o) none fresh is
 
 -- a call that nothing else refuses is refused for its reference alone
@@ -153,7 +154,7 @@ refused-answers e s m n c st h k same =
 
 accepted-answers : (e : Environment) (s : StoreState) (m n : ReferenceMap) (c : Call) (o : Out) → None ≡ reference_refusal m c
     → NamesReference (referring e s m) c → is_fresh_result (referring e s m) o ≡ true
-    → effect (referring e s m) c (number_of o) ≡ accepts o (referring e s n) → AnswersInTime (referring e s m) c (plain status.Ok o) (referring e s n)
+    → effect (referring e s m) c (issued_number o) ≡ accepts o (referring e s n) → AnswersInTime (referring e s m) c (plain status.Ok o) (referring e s n)
 accepted-answers e s m n c o h k fresh is =
     accepted-timely (referring e s m) (referring e s n) c o (by-reference (referring e s m) c None (seen-refusal s m c ∙ sym h) k) fresh is
 

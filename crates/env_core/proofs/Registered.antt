@@ -23,7 +23,7 @@ use Rattle.napi_types.specs.parts.InstanceData.{instance_ticket, with_instance}
 use Rattle.napi_types.specs.parts.References.{ReferenceMap}
 use Rattle.napi_types.specs.parts.ScopeChanges.{hold_in}
 use Rattle.napi_types.specs.environment.Calls.{effect}
-use Rattle.napi_types.specs.environment.Changes.{number_of, is_fresh_result}
+use Rattle.napi_types.specs.environment.Changes.{issued_number, is_fresh_result}
 use Rattle.napi_types.specs.environment.Environment.{Environment, in_heap}
 use Rattle.napi_types.specs.environment.ExternalCalls.{attached_if}
 use Rattle.napi_types.specs.environment.ReferenceCalls.{with_references}
@@ -98,7 +98,8 @@ refers-fresh e true v (out.Ref r) m h = ap not h.0
 refers-fresh e false v out.Nothing m h = refl
 refers-fresh e _ v _ m h = absurd h
 
-pub referring-is : (e : Environment) (wanted : Bool) (v : ℕ) (o : Out) (m : ReferenceMap) → RefersIf wanted v e.references o m → referring_if wanted (number_of o) v e ≡ accepts o (with_references m e)
+pub referring-is : (e : Environment) (wanted : Bool) (v : ℕ) (o : Out) (m : ReferenceMap) → RefersIf wanted v e.references o m
+    → referring_if wanted (issued_number o) v e ≡ accepts o (with_references m e)
 referring-is e true v (out.Ref r) m h = ap (λ (x : ReferenceMap). accepts (out.Ref r) (with_references x e)) (sym h.1)
 referring-is e false v out.Nothing m h = ap (λ (x : ReferenceMap). accepts out.Nothing (with_references x e)) (sym h)
 referring-is e _ v _ m h = absurd h
@@ -118,7 +119,7 @@ withdrawing-is (Some n) o e = refl
 
 -- one that registers, where there is something to register
 registered-answers : (e mid new : Environment) (c : Call) (o : Out) (asked f : Option Registration) → refusal_by_state e c ≡ None → is_fresh_result e o ≡ true
-    → effect e c (number_of o) ≡ registering_if asked (accepts o mid) → f ≡ asked → new ≡ record mid { book = with_registration_if f mid.book }
+    → effect e c (issued_number o) ≡ registering_if asked (accepts o mid) → f ≡ asked → new ≡ record mid { book = with_registration_if f mid.book }
     → AnswersInTime e c (told o None (duty_if (ticket_for mid.book f))) new
 registered-answers e mid new c o asked f none fresh is same after =
     replied-timely e new c (told o None (duty_if (ticket_for mid.book f))) none fresh

@@ -18,7 +18,7 @@ use Rattle.napi_types.specs.parts.HeapCalls.{addon_effect, heap_answer_unless, h
 use Rattle.napi_types.specs.parts.HeapRefusals.{refusal_in}
 use Rattle.napi_types.specs.parts.References.{Reference, ReferenceMap}
 use Rattle.napi_types.specs.environment.Calls.{effect, answer_unless}
-use Rattle.napi_types.specs.environment.Changes.{is_fresh_result, number_of}
+use Rattle.napi_types.specs.environment.Changes.{is_fresh_result, issued_number}
 use Rattle.napi_types.specs.environment.Environment.{Environment, TsfnRoot, with_heap, in_heap}
 use Rattle.napi_types.specs.environment.Refusals.{group_refusal, refusal_by_state}
 use Rattle.napi_types.proofs.plain.Lists.{option_or-none}
@@ -83,7 +83,7 @@ pub value-answers : {E : Type 0} (e : Environment) (addon : ℕ) (c : Call) (hea
 value-answers e addon c heap (Err x) h caller replies leaves = tt
 value-answers e addon c heap (Ok told) h caller replies leaves =
     let r : Reply = plain told.0 told.1 in
-    let n = number_of r.out in
+    let n = issued_number r.out in
     let any : heap_answer e.texts addon e.heap c 0 ≡ heap_answer e.texts (caller_of e.frames) e.heap c n =
     answer-any e.texts addon e.heap c n h ∙ ap (λ a. heap_answer e.texts a e.heap c n) caller in
     let given : answer_unless e c n (refusal_by_state e c) ≡ in_heap e (heap_answer e.texts (caller_of e.frames) e.heap c n) =

@@ -15,7 +15,7 @@ use Rattle.napi_types.specs.plain.Guards.{is_growing}
 use Rattle.napi_types.specs.plain.Replies.{plain}
 use Rattle.napi_types.specs.plain.Room.{Room, is_full, need, first_places}
 use Rattle.napi_types.specs.parts.Book.{Registration, registration_at, due_info}
-use Rattle.napi_types.specs.environment.Changes.{Change, call_change, call_entry, with_noted_status, number_of, is_fresh_result}
+use Rattle.napi_types.specs.environment.Changes.{Change, call_change, call_entry, with_noted_status, issued_number, is_fresh_result}
 use Rattle.napi_types.specs.environment.Entering.{is_entering, enter_change}
 use Rattle.napi_types.specs.environment.Environment.{Environment}
 use Rattle.napi_types.specs.environment.Refusals.{refusal_before_depth}
@@ -85,8 +85,8 @@ pub record Replies (old : Core) (c : Call) (r : Reply) (new : Core) : Type 0 whe
   pub at_once : is_entering old.env c ≡ false
   pub fits : is_full (room_in old) c ≡ false
   pub fresh : IsTrue (is_fresh_result old.env r.out)
-  pub answer : r ≡ (call_change old.env c (number_of r.out)).entry.reply
-  pub after : new ≡ after_change (call_change old.env c (number_of r.out)) old
+  pub answer : r ≡ (call_change old.env c (issued_number r.out)).entry.reply
+  pub after : new ≡ after_change (call_change old.env c (issued_number r.out)) old
 
 -- a call of a function is accepted and fits, and the core wrote the begin of the frame that it enters: this entry of this addon, which is given these gifts
 pub record EntersBy (old : Core) (receiver : Option HandleId) (f : HandleId) (args : Args) (target : Target) (gifts : List ℕ) (new : Core) : Type 0 where

@@ -25,7 +25,7 @@ use Rattle.napi_types.specs.parts.HeapChanges.{with_frame}
 use Rattle.napi_types.specs.parts.Properties.{most_names}
 use Rattle.napi_types.specs.parts.References.{ReferenceMap}
 use Rattle.napi_types.specs.environment.Calls.{answer_unless, answer}
-use Rattle.napi_types.specs.environment.Changes.{call_change, call_entry, number_of, is_fresh_result}
+use Rattle.napi_types.specs.environment.Changes.{call_change, call_entry, issued_number, is_fresh_result}
 use Rattle.napi_types.specs.environment.Entering.{is_entering, enter_change}
 use Rattle.napi_types.specs.environment.Environment.{Environment, TsfnRoot}
 use Rattle.napi_types.specs.environment.Refusals.{refusal_by_state, refusal}
@@ -76,14 +76,14 @@ closing_call scope_kind.Escapable scope = call.CloseEscapableHandleScope scope
 -- the call's entry is the machine's, with a fresh number where it gives one, and the environment is the one after it
 pub record Calls (old : Environment) (c : Call) (x : Entry) (new : Environment) : Type 0 where
   pub fresh : IsTrue (is_fresh_result old x.reply.out)
-  pub entry : x ≡ (call_change old c (number_of x.reply.out)).entry
-  pub after : new ≡ (call_change old c (number_of x.reply.out)).after
+  pub entry : x ≡ (call_change old c (issued_number x.reply.out)).entry
+  pub after : new ≡ (call_change old c (issued_number x.reply.out)).after
 
 -- a reply is the one of this answer, with a fresh number where it gives one, and the environment is what the answer leaves
 pub record AnswersBy (told : ℕ → Answer Environment) (old : Environment) (r : Reply) (new : Environment) : Type 0 where
   pub fresh : IsTrue (is_fresh_result old r.out)
-  pub reply : r ≡ (told (number_of r.out)).reply
-  pub after : new ≡ (told (number_of r.out)).after
+  pub reply : r ≡ (told (issued_number r.out)).reply
+  pub after : new ≡ (told (issued_number r.out)).after
 
 -- the machine's answer to a call
 abbrev pub Answers : Environment → Call → Reply → Environment → Type 0

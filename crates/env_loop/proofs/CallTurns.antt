@@ -20,7 +20,7 @@ use Rattle.napi_types.specs.parts.Frames.{Frame, ask_counted, most_asks}
 use Rattle.napi_types.specs.parts.FunctionCalls.{callee_of, call_gifts}
 use Rattle.napi_types.specs.scripts.Plans.{Plan, plan_of, Registers, registers_of}
 use Rattle.napi_types.specs.scripts.Registers.{registers_after_reply}
-use Rattle.napi_types.specs.environment.Changes.{Change, number_of, is_fresh_result, call_change}
+use Rattle.napi_types.specs.environment.Changes.{Change, issued_number, is_fresh_result, call_change}
 use Rattle.napi_types.specs.environment.Entering.{enter_change, asked_change}
 use Rattle.napi_types.specs.environment.SharedCalls.{shared_call_of}
 use Rattle.napi_types.specs.runs.CallRoom.{room_of}
@@ -57,15 +57,15 @@ on-last old new c r e p = let Q : Option Reply → Type 0 = λ q. MatchOption q 
 call_change-goes : {ps : List Plan} {core : Core} {all : AddonStates} {f : Frame} {a : Ask} → InFrame ps core.env all.registers f a
     → (c : Call) (r : Reply) (new : Core) (now : AddonStates) → f.asks < most_asks
     → ask.Do c ≡ a → is_shared c ≡ false → Replies core c r new → ReplyIsNoted ps all.registers core.env.frames r now.registers → now.seen ≡ all.seen
-    → KeepsRecord ps core all (after_change (call_change core.env c (number_of r.out)) core) now
+    → KeepsRecord ps core all (after_change (call_change core.env c (issued_number r.out)) core) now
 call_change-goes {ps} {core} {all} {f} {a} i c r new now below is local reply told same = λ s hub history firsts of own.
     let rec : IsRecorded s core hub history all firsts = own.recorded in
-    let k : ℕ = number_of r.out in
+    let k : ℕ = issued_number r.out in
     let change : Change = call_change core.env c k in
     let m : Machine = machine_of s.limits core hub history in
     let o : Out = change.entry.reply.out in
     let same_out : r.out ≡ o = ap (λ (x : Reply). x.out) reply.answer in
-    let number : number_of o ≡ k = ap number_of (sym same_out) in
+    let number : issued_number o ≡ k = ap issued_number (sym same_out) in
     let fresh_o : is_fresh_result core.env o ≡ true = ap (is_fresh_result core.env) (sym same_out) ∙ reply.fresh in
     let room : is_full (room_of m c) c ≡ false = ap (λ x. is_full x c) (sym (same-room s core hub history c local rec.limit)) ∙ reply.fits in
     let told_here : ReplyIsNoted ps all.registers core.env.frames change.entry.reply now.registers =
@@ -108,7 +108,7 @@ pub replied-turn : {ps : List Plan} {old : Run} {all : AddonStates} {f : Frame} 
     → now.seen ≡ all.seen → IsMadeTurn ps old all (record old { core = new }) now
 replied-turn {ps} {old} {all} {f} {a} i c r new now idle unended below is local reply others keeps same =
     let e = old.core.env in
-    let k : ℕ = number_of r.out in
+    let k : ℕ = issued_number r.out in
     let told : ReplyIsNoted ps all.registers e.frames r now.registers =
     subst (λ (l : List Frame). ReplyIsNoted ps all.registers l r now.registers) (sym (in-stands i)) (others, keeps) in
     let U : List Frame → Type 0 = λ l. OnlyInnermostChanges e.frames (ask_counted l) all.registers now.registers in
@@ -132,7 +132,7 @@ pub replied-running : (core : Core) {ps : List Plan} {all : Registers} {f : Fram
     → (c : Call) (r : Reply) (new : Core) (begun : Option DueInfo) (ending : Option FrameEnd) → core.awaited ≡ None → ending ≡ None → f.asks < most_asks
     → Replies core c r new → HoldsDuty core.env.frames begun → IsRunning new begun ending
 replied-running core {ps} {all} {f} {a} i c r new begun ending idle unended below reply held =
-    let k : ℕ = number_of r.out in
+    let k : ℕ = issued_number r.out in
     asked-running core i c k (call_change core.env c k) new begun ending idle unended below
     (asked_change-call_change core.env c k reply.at_once) reply.after held
 

@@ -14,7 +14,7 @@ use Rattle.napi_types.specs.plain.Guards.{is_shared}
 use Rattle.napi_types.specs.plain.Room.{is_full}
 use Rattle.napi_types.specs.parts.Frames.{Frame, duty_of, is_hub_duty}
 use Rattle.napi_types.specs.environment.Calls.{answer}
-use Rattle.napi_types.specs.environment.Changes.{number_of, is_fresh_result, may_ask, may_call}
+use Rattle.napi_types.specs.environment.Changes.{issued_number, is_fresh_result, may_ask, may_call}
 use Rattle.napi_types.specs.environment.Ends.{end_out, end_change}
 use Rattle.napi_types.specs.environment.Entering.{asked_change}
 use Rattle.napi_types.specs.environment.Environment.{Environment}
@@ -63,7 +63,7 @@ pub both_may : (a b c : Bool) → a ≡ true → b ≡ true → c ≡ false → 
 both_may a b c p q r = rw (p, q, r) refl
 
 pub call-next : (m : Machine) (a : Ask) (c : Call) (o : Out) (n : ℕ) (f : Frame) (fs : List Frame) → m.env.frames ≡ f ∷ fs → ask.Do c ≡ a → is_shared c ≡ false
-    → cut_of o ≡ None → number_of o ≡ n
+    → cut_of o ≡ None → issued_number o ≡ n
     → may_call m.env ≡ true → is_fresh_result m.env o ≡ true → is_full (room_of m c) c ≡ false
     → env_step m a o m.env.frames ≡ locally m (asked_change m.env c n) true
 call-next m a c o n f fs stands made local uncut number may fresh fits =

@@ -16,7 +16,7 @@ use Rattle.napi_types.specs.plain.Lists.{up_to}
 use Rattle.napi_types.specs.parts.Book.{Registration, is_due, is_at, registration_at, lowest_due, ticket_duty, may_begin_in}
 use Rattle.napi_types.specs.parts.Frames.{is_hub_duty}
 use Rattle.napi_types.specs.parts.Hooks.{Hook, last_hook}
-use Rattle.napi_types.specs.environment.Changes.{number_of, call_change}
+use Rattle.napi_types.specs.environment.Changes.{issued_number, call_change}
 use Rattle.napi_types.specs.environment.Entering.{asked_change}
 use Rattle.napi_types.specs.environment.Environment.{Environment}
 use Rattle.napi_types.specs.hub.Hub.{Stage, Live, Drained}
@@ -177,7 +177,7 @@ event-begins m d x h begins = by (chosen-by m h.event h.next)
         hub-begins m m.hub.stage h.event d x refl h.alone its.0 (hub-choice m.hub (waiting_hooks m.env) m.hub.stage h.event its.1) h.entry h.may begins
 
 form-begins : (m : Machine) (t : Step) (d : Duty) (x : Entry) → Form m t → x ≡ t.entry → IsTrue t.may → Begins x d → BeginsSo m d x
-form-begins m t d x (form.calls f fs stands c o alone) is may begins = absurd (asked-begins m.env c (number_of o) d (subst (λ y. Begins y d) is begins))
+form-begins m t d x (form.calls f fs stands c o alone) is may begins = absurd (asked-begins m.env c (issued_number o) d (subst (λ y. Begins y d) is begins))
 form-begins m t d x (form.shares f fs stands c o shared answers) is may begins =
     absurd (none-begins x (what.Call c) d (ap (λ (y : Entry). y.what) is ∙ shared-what m c o) refl begins)
 form-begins m t d x (form.ends f fs stands v cut b ours is_ours) is may begins =

@@ -20,7 +20,7 @@ use Rattle.napi_types.specs.plain.Entries.{cut_of, is_begin}
 use Rattle.napi_types.specs.plain.Guards.{is_shared}
 use Rattle.napi_types.specs.parts.Book.{Registration, registration_at}
 use Rattle.napi_types.specs.parts.Frames.{Frame, duty_of, is_hub_duty}
-use Rattle.napi_types.specs.environment.Changes.{number_of, may_ask}
+use Rattle.napi_types.specs.environment.Changes.{issued_number, may_ask}
 use Rattle.napi_types.specs.environment.Ends.{end_change}
 use Rattle.napi_types.specs.environment.Entering.{asked_change}
 use Rattle.napi_types.specs.environment.Environment.{Environment}
@@ -53,7 +53,7 @@ asked-of : (e : Environment) (c : Call) (n : ℕ) → OfFrames (asked_change e c
 asked-of e c n = asked-by e c n (λ d. OfFrames d.entry) refl (λ receiver f args none. refl)
 
 called-of : (m : Machine) (c : Call) (o : Out) (b : Bool) → OfFrames (call_step_on b m c o).entry
-called-of m c o false = asked-of m.env c (number_of o)
+called-of m c o false = asked-of m.env c (issued_number o)
 called-of m c o true = ap (λ w. is_of_frames w (call_step_on true m c o).entry.reply.out) (shared-what m c o)
 
 frame-of : (m : Machine) (a : Ask) (o : Out) (cut : Option Why) → OfFrames (frame_step m a o cut).entry
@@ -100,7 +100,7 @@ event-tells m FinalsCome next may is = other-tells (event_step m FinalsCome) _ (
 event-tells m IsGone next may is = cc
 
 form-tells : (m : Machine) (t : Step) → Form m t → IsTrue t.may → StepTells t
-form-tells m _ (form.calls f fs stands c o alone) may is = asked-tells m c (number_of o) is
+form-tells m _ (form.calls f fs stands c o alone) may is = asked-tells m c (issued_number o) is
 form-tells m t (form.shares f fs stands c o shared answers) may is = other-tells t (what.Call c) (shared-what m c o) refl is
 form-tells m t (form.ends f fs stands v cut b ours is_ours) may is = other-tells t (what.Host host.End) (ended-what m v cut b ours) refl is
 form-tells m _ (form.happens alone event next) may is = event-tells m event next may is

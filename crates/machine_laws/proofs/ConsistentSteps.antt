@@ -26,7 +26,7 @@ use Rattle.napi_types.specs.parts.Heap.{Heap, handle_value}
 use Rattle.napi_types.specs.parts.HeapChanges.{with_handle, with_frame, without_frame}
 use Rattle.napi_types.specs.parts.Hooks.{Hook}
 use Rattle.napi_types.specs.parts.Values.{undefined_value}
-use Rattle.napi_types.specs.environment.Changes.{opening_change, gone_change, in_phase, number_of, with_noted_status}
+use Rattle.napi_types.specs.environment.Changes.{opening_change, gone_change, in_phase, issued_number, with_noted_status}
 use Rattle.napi_types.specs.environment.Ends.{uncut_call_end, end_change, outermost_end_change}
 use Rattle.napi_types.specs.environment.Entering.{enter_change, asked_change}
 use Rattle.napi_types.specs.environment.Environment.{Environment, TsfnRoot}
@@ -241,7 +241,7 @@ event-follows m IsGone none c =
     other-follows m.env (gone_change m.env).after good refl refl (stays m.env.heap) c
 
 call-step-follows : (m : Machine) (c : Call) (o : Out) (b : Bool) → IsConsistent m.env → StepFollows m (call_step_on b m c o)
-call-step-follows m c o false old = asked-follows m.env c (number_of o) old
+call-step-follows m c o false old = asked-follows m.env c (issued_number o) old
 call-step-follows m c o true old = shared-follows m.env c (call_step_on true m c o).entry.reply old
 
 end-step-follows : (m : Machine) (v : Option HandleId) (cut : Option Why) (may b : Bool) → IsConsistent m.env → StepFollows m (end_step_on b m (end_change v cut m.env) may)

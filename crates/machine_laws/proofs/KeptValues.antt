@@ -20,7 +20,7 @@ use Rattle.napi_types.specs.plain.Guards.{is_shared}
 use Rattle.napi_types.specs.plain.Lists.{one}
 use Rattle.napi_types.specs.parts.Book.{Registration, registration_at}
 use Rattle.napi_types.specs.parts.Heap.{handle_value}
-use Rattle.napi_types.specs.environment.Changes.{number_of}
+use Rattle.napi_types.specs.environment.Changes.{issued_number}
 use Rattle.napi_types.specs.environment.Ends.{end_change}
 use Rattle.napi_types.specs.environment.Entering.{asked_change}
 use Rattle.napi_types.specs.environment.Environment.{Environment, TsfnRoot}
@@ -171,7 +171,8 @@ module _ (n : ℕ) (m : Machine) where
   ended-step-keeps v cut may true = keeps-same n m.env (end_change v cut m.env).after (ended-roots v cut m.env)
 
   form-keeps : (t : Step) → Form m t → is_finish_of n t.entry ≡ false → KeepsOn n m.env t.after.env
-  form-keeps _ (form.calls f fs stands c o local) none = keeps-same n m.env (asked_change m.env c (number_of o)).after (asked-roots m.env c (number_of o))
+  form-keeps _ (form.calls f fs stands c o local) none = keeps-same n m.env (asked_change m.env c (issued_number o)).after
+      (asked-roots m.env c (issued_number o))
   form-keeps _ (form.shares f fs stands c o shared answers) none = shared-keeps c o
   form-keeps _ (form.ends f fs stands v cut may ours is) none = ended-step-keeps v cut may ours
   form-keeps _ (form.happens alone event next) none = event-keeps event next none
@@ -211,10 +212,11 @@ module _ (m : Machine) (f : HandleId) (entry : Option ℕ) (maximum count : ℕ)
       let r : Reply = (hub_step m.hub (shared_entry m.env c o)).entry.reply in
       ap (λ d. kept_by n.0 (with_root d r.out m.env)) same ∙ ap (λ p. kept_by n.0 (with_root creation p m.env)) told ∙ new-kept
 
-  local-new : (c : Call) (o : Out) → is_shared c ≡ false → (asked_change m.env c (number_of o)).entry.what ≡ what.Call creation → ⊥
-  local-new c o local is = by (asked-what m.env c (number_of o))
+  local-new : (c : Call) (o : Out) → is_shared c ≡ false → (asked_change m.env c (issued_number o)).entry.what ≡ what.Call creation → ⊥
+  local-new c o local is = by (asked-what m.env c (issued_number o))
     where
-      by : ((asked_change m.env c (number_of o)).entry.what ≡ what.Call c) ⊎ ((asked_change m.env c (number_of o)).entry.what ≡ what.Host host.Begin) → ⊥
+      by : ((asked_change m.env c (issued_number o)).entry.what ≡ what.Call c) ⊎ ((asked_change m.env c (issued_number o)).entry.what ≡ what.Host host.Begin)
+          → ⊥
       by (inl here) =
           let named : what.Call c ≡ what.Call creation = sym here ∙ is in
           let same : c ≡ creation = cc in
@@ -265,7 +267,7 @@ module _ (n : ℕ) (m : Machine) where
       by (inr begins) = let no : what.Host host.Begin ≡ what.Host host.FinishTsfn = sym begins ∙ is in cc
 
   form-none : (t : Step) → Form m t → IsTrue t.may → t.entry.what ≡ what.Host host.FinishTsfn → is_finish_of n t.entry ≡ true → KeepsNone t
-  form-none _ (form.calls f fs stands c o local) may is finish = absurd (local-none c (number_of o) is)
+  form-none _ (form.calls f fs stands c o local) may is finish = absurd (local-none c (issued_number o) is)
   form-none _ (form.shares f fs stands c o shared answers) may is finish = let no : what.Call c ≡ what.Host host.FinishTsfn = sym (shared-what m c o) ∙ is in cc
   form-none _ (form.ends f fs stands v cut b ours here) may is finish =
       let no : what.Host host.End ≡ what.Host host.FinishTsfn = sym (ended-what m v cut b ours) ∙ is in cc

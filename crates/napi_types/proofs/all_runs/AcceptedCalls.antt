@@ -25,7 +25,7 @@ use Rattle.napi_types.specs.parts.Functions.{FunctionState, call_status}
 use Rattle.napi_types.specs.parts.Pool.{work_refusal}
 use Rattle.napi_types.specs.parts.Works.{is_created}
 use Rattle.napi_types.specs.environment.Calls.{answer_unless_deep}
-use Rattle.napi_types.specs.environment.Changes.{number_of, may_call, call_change}
+use Rattle.napi_types.specs.environment.Changes.{issued_number, may_call, call_change}
 use Rattle.napi_types.specs.environment.Ends.{end_change}
 use Rattle.napi_types.specs.environment.Entering.{asked_change, enter_change}
 use Rattle.napi_types.specs.environment.Environment.{Environment}
@@ -140,7 +140,7 @@ other-tells h x other may = by x.what refl
     by (what.Host event) is = event-tells (hub_step h x).entry event (hub_step-what h x ∙ is)
 
 form-tells : (m : Machine) (t : Step) → Form m t → IsTrue t.may → TellsItsDuty t.entry
-form-tells m _ (form.calls f fs stands c o local) may = asked-tells m.env c (number_of o) local
+form-tells m _ (form.calls f fs stands c o local) may = asked-tells m.env c (issued_number o) local
 form-tells m _ (form.shares f fs stands c o shared answers) may =
     let x : Entry = shared_entry m.env c o in
     answered-tells m.hub x (is_shared c && fits_stage m.hub.stage c (refusal m.env c) && is_fresh_work m.hub o) c

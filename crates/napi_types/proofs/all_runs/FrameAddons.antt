@@ -26,7 +26,7 @@ use Rattle.napi_types.specs.parts.Book.{Registration, registration_at}
 use Rattle.napi_types.specs.parts.Kinds.{expects_if}
 use Rattle.napi_types.specs.parts.Frames.{frame_of_duty, caller_of}
 use Rattle.napi_types.specs.parts.Heap.{handle_body}
-use Rattle.napi_types.specs.environment.Changes.{number_of, with_noted_status}
+use Rattle.napi_types.specs.environment.Changes.{issued_number, with_noted_status}
 use Rattle.napi_types.specs.environment.Ends.{end_change}
 use Rattle.napi_types.specs.environment.Entering.{asked_change}
 use Rattle.napi_types.specs.environment.Environment.{Environment}
@@ -130,8 +130,8 @@ StepOwned n s = AreOfScript n s.after
 
 call-step-owned : (n : ℕ) (m : Machine) (c : Call) (o : Out) (b : Bool) → m.env.frames ≢ [] → AreOfScript n m → StepOwned n (call_step_on b m c o)
 call-step-owned n m c o false stands k = record {
-  addons = (course-parts m.env (asked_change m.env c (number_of o)).after (asked_change-fits m.env c (number_of o)).course).addons ∙ k.addons;
-  env = owned-asked n m.env c (number_of o) stands k.env;
+  addons = (course-parts m.env (asked_change m.env c (issued_number o)).after (asked_change-fits m.env c (issued_number o)).course).addons ∙ k.addons;
+  env = owned-asked n m.env c (issued_number o) stands k.env;
   hub = k.hub;
 }
 call-step-owned n m c o true stands k =

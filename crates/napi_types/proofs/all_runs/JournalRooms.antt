@@ -21,7 +21,7 @@ use Rattle.napi_types.specs.plain.Lists.{tail}
 use Rattle.napi_types.specs.plain.Room.{one_if, is_full, need}
 use Rattle.napi_types.specs.parts.Book.{Book, Registration, moved_at, registration_at, owed_tickets, begun_in}
 use Rattle.napi_types.specs.parts.Frames.{Frame, frame_of_duty, cause_of, duty_of, is_hub_duty, local_frames}
-use Rattle.napi_types.specs.environment.Changes.{may_call, is_fresh_result, number_of, book_in}
+use Rattle.napi_types.specs.environment.Changes.{may_call, is_fresh_result, issued_number, book_in}
 use Rattle.napi_types.specs.environment.Ends.{end_change}
 use Rattle.napi_types.specs.environment.Entering.{asked_change}
 use Rattle.napi_types.specs.environment.Environment.{Environment}
@@ -106,7 +106,7 @@ call-fits j b d f w v n x h k = grind arith
 call-room : (Enough : Type 0) (l : Limits) (m : Machine) (c : Call) (o : Out) (f : Frame) (fs : List Frame) (b : Bool) → is_shared c ≡ b → m.env.frames ≡ f ∷ fs
     → Roomy Enough l m → IsTrue (call_step_on b m c o).may → Roomy Enough l (call_step_on b m c o).after
 call-room Enough l m c o f fs false local e r h =
-    let n : ℕ = number_of o in
+    let n : ℕ = issued_number o in
     let d : Environment = (asked_change m.env c n).after in
     let k : KeepsButFrames m.env d (need c) = asked_change-fits m.env c n in
     let course : SameCourse m.env d = course-parts m.env d k.course in

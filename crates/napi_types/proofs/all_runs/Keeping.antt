@@ -7,7 +7,7 @@ use Rattle.napi_types.specs.declared.entry.Entry.{Entry}
 use Rattle.napi_types.specs.declared.entry.HostStep.TheVariants as host
 use Rattle.napi_types.specs.declared.entry.What.TheVariants as what
 use Rattle.napi_types.specs.plain.Guards.{is_shared}
-use Rattle.napi_types.specs.environment.Changes.{number_of}
+use Rattle.napi_types.specs.environment.Changes.{issued_number}
 use Rattle.napi_types.specs.environment.Entering.{asked_change}
 use Rattle.napi_types.specs.environment.Environment.{Environment}
 use Rattle.napi_types.specs.environment.Roots.{roots}
@@ -41,7 +41,7 @@ not-shared c shares same = cc
 
 -- so only a local call is one
 form-kept : (m : Machine) (s : Step) → Form m s → IsTrue s.may → IsCollection s.entry → Collects m.env s.after.env s.entry
-form-kept m _ (form.calls f fs stands c o local) may is = asked-kept m.env c (number_of o) is
+form-kept m _ (form.calls f fs stands c o local) may is = asked-kept m.env c (issued_number o) is
 form-kept m _ (form.shares f fs stands c o shares told) may is = absurd (not-shared c shares (sym (shared-what m c o) ∙ is))
 form-kept m _ (form.ends f fs stands v cut b ours hubs) may is =
     let no : what.Host host.End ≡ what.Call call.Collect = sym (ended-what m v cut b ours) ∙ is in cc

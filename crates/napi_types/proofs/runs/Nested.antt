@@ -12,7 +12,7 @@ use Rattle.napi_types.specs.declared.ids.HandleId.{HandleId}
 use Rattle.napi_types.specs.parts.Book.{Registration, registration_at}
 use Rattle.napi_types.specs.parts.Duties.{AreNested}
 use Rattle.napi_types.specs.parts.Frames.{frame_of_duty}
-use Rattle.napi_types.specs.environment.Changes.{number_of, in_phase}
+use Rattle.napi_types.specs.environment.Changes.{issued_number, in_phase}
 use Rattle.napi_types.specs.environment.Ends.{end_change}
 use Rattle.napi_types.specs.environment.Entering.{asked_change}
 use Rattle.napi_types.specs.environment.Environment.{Environment}
@@ -80,7 +80,7 @@ event-nested m FinalsCome next none here = phase-nested phase.Finals m.env here
 event-nested m _ next none here = record { frames = here.frames; uncalled = here.uncalled }
 
 pub form-nested : (m : Machine) (t : Step) → Form m t → IsNested m.env → IsNested t.after.env
-form-nested m _ (form.calls f fs stands c o alone) here = asked-nested m.env c (number_of o) (some-stand f fs m.env.frames stands) here
+form-nested m _ (form.calls f fs stands c o alone) here = asked-nested m.env c (issued_number o) (some-stand f fs m.env.frames stands) here
 form-nested m _ (form.shares f fs stands c o shared answers) here = shared-nested m c o here
 form-nested m _ (form.ends f fs stands v cut may ours is) here = end_step-nested m v cut may ours here
 form-nested m _ (form.happens alone event next) here = event-nested m event next alone here

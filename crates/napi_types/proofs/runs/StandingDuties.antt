@@ -17,7 +17,7 @@ use Rattle.napi_types.specs.plain.Lists.{tail}
 use Rattle.napi_types.specs.parts.Book.{Registration, registration_at}
 use Rattle.napi_types.specs.parts.Duties.{duties_of, AreNested}
 use Rattle.napi_types.specs.parts.Frames.{Frame, duty_of, is_hub_duty}
-use Rattle.napi_types.specs.environment.Changes.{number_of}
+use Rattle.napi_types.specs.environment.Changes.{issued_number}
 use Rattle.napi_types.specs.environment.Ends.{end_change}
 use Rattle.napi_types.specs.environment.Environment.{Environment}
 use Rattle.napi_types.specs.environment.SharedCalls.{shared_entry}
@@ -130,7 +130,7 @@ event-alike m _ next alone alike = alike
 
 form-alike : (m : Machine) (t : Step) → Form m t → IsTrue t.may → AreNested m.env.frames → StandsAlike m.env m.hub → StepsAlike t
 form-alike m _ (form.calls f fs stands c o alone) may nested alike =
-    ap (λ ds. filter (λ d. is_hub_duty (Some d)) ds) (duties-asked m.env c (number_of o)) ∙ alike
+    ap (λ ds. filter (λ d. is_hub_duty (Some d)) ds) (duties-asked m.env c (issued_number o)) ∙ alike
 form-alike m _ (form.shares f fs stands c o shared answers) may nested alike = shared-alike m c o alike
 form-alike m _ (form.ends f fs stands v cut b ours is) may nested alike = ended-alike m v cut b ours nested is may alike
 form-alike m _ (form.happens alone event next) may nested alike = event-alike m event next alone alike

@@ -20,7 +20,7 @@ use Rattle.napi_types.specs.plain.Phases.{next_phase}
 use Rattle.napi_types.specs.parts.Book.{Registration, registration_at, may_begin_in}
 use Rattle.napi_types.specs.parts.Frames.{duty_of, is_hub_duty}
 use Rattle.napi_types.specs.parts.Hooks.{Hook}
-use Rattle.napi_types.specs.environment.Changes.{opening_change, init_change, gone_change, number_of}
+use Rattle.napi_types.specs.environment.Changes.{opening_change, init_change, gone_change, issued_number}
 use Rattle.napi_types.specs.environment.Ends.{end_change}
 use Rattle.napi_types.specs.environment.Entering.{asked_change}
 use Rattle.napi_types.specs.environment.Tickets.{ticket_change, ticket_in, next_ticket}
@@ -143,7 +143,7 @@ event-case m v alone far next may = by (chosen-in-phase m v next)
 -- EACH STEP
 -- each form of a step is a case, that of an event by the phase
 form-case : (m : Machine) (s : Step) → Form m s → InPhase m → IsTrue s.may → StepCase m s
-form-case m _ (form.calls f fs stands c o local) far may = calls c (number_of o) _ local
+form-case m _ (form.calls f fs stands c o local) far may = calls c (issued_number o) _ local
 form-case m _ (form.shares f fs stands c o is told) far may = shares c o is told
 form-case m _ (form.ends f fs stands v cut b false is) far may = ends v cut b is
 form-case m _ (form.ends f fs stands v cut b true is) far may = leaves v cut b is

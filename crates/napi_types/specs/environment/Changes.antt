@@ -51,10 +51,10 @@ abbrev pub call_entry : Environment → Call → Reply → Entry
 call_entry e c r = record { actor = actor.Env; depth = length e.frames; step = asks_made e.frames; what = what.Call c; reply = r; given = None }
 
 -- the number that a result newly gives, which the environment may choose; 0 where it chooses none
-abbrev pub number_of : Out → ℕ
-number_of (out.Scope s) = s.0
-number_of (out.Ref r) = r.0
-number_of _ = 0
+abbrev pub issued_number : Out → ℕ
+issued_number (out.Scope s) = s.0
+issued_number (out.Ref r) = r.0
+issued_number _ = 0
 
 -- a number that the environment chooses is above 0 and was never issued
 abbrev pub is_fresh_result : Environment → Out → Bool

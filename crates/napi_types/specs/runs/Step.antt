@@ -21,7 +21,7 @@ use Rattle.napi_types.specs.plain.Room.{is_full, fits_in, may_want_memory}
 use Rattle.napi_types.specs.plain.Weave.{Side, Journal, History}
 use Rattle.napi_types.specs.parts.Book.{Registration, registration_at, may_begin_in}
 use Rattle.napi_types.specs.parts.Frames.{Frame, asks_made, most_asks, duty_of, is_hub_duty}
-use Rattle.napi_types.specs.environment.Changes.{Change, opening_change, init_change, number_of, is_fresh_result, may_ask, may_call, gone_change, in_phase}
+use Rattle.napi_types.specs.environment.Changes.{Change, opening_change, init_change, issued_number, is_fresh_result, may_ask, may_call, gone_change, in_phase}
 use Rattle.napi_types.specs.environment.Ends.{end_change}
 use Rattle.napi_types.specs.environment.Entering.{asked_change}
 use Rattle.napi_types.specs.environment.Environment.{Environment}
@@ -95,8 +95,8 @@ chosen m None = no_step m
 chosen m (Some event) = event_step m event
 
 -- STEPS OF A FRAME
--- whether a frame may be cut so, where this is its ask: after its last ask, or at a call that stopped. A local call that is full did not stop for want of memory;
--- a shared one may have, since others may have filled the history between the stop and the end
+-- whether a frame may be cut so, where this is its ask: after its last ask, or at a call that stopped. A local call that is full did not stop for want of
+-- memory; a shared one may have, since others may have filled the history between the stop and the end
 abbrev pub may_cut : Machine → Ask → Why → Bool
 may_cut m a why.Asks = asks_made m.env.frames == most_asks
 may_cut m (ask.Do c) why.Full = may_call m.env && is_full (room_of m c) c
@@ -105,7 +105,7 @@ may_cut m (ask.Leave v) _ = false
 
 -- a local call leaves its entry, or enters its frame, where its frame makes asks and there is room for it
 abbrev pub local_call_step : Machine → Call → Out → Step
-local_call_step m c o = locally m (asked_change m.env c (number_of o)) (may_call m.env && is_fresh_result m.env o && not (is_full (room_of m c) c))
+local_call_step m c o = locally m (asked_change m.env c (issued_number o)) (may_call m.env && is_fresh_result m.env o && not (is_full (room_of m c) c))
 
 -- the hub answers a shared call, likewise
 abbrev pub answered_by : Machine → Call → HubStep → Step
