@@ -262,4 +262,4 @@ def out_text(out):
 def kept_count(out):
     """Returns how many registers keep an `Out`."""
     text = right_of("register_values", f"out.{out}")
-    return 0 if text.strip() == "[]" else text.count("∷") + len(re.findall(r"\bone\b", text))
+    return 0 if text.strip() == "[]" else text.count("∷") + len(re.findall(r"\bsingleton\b", text))

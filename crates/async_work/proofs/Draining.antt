@@ -1,6 +1,6 @@
 -- The first work that waits, and all works that wait as they are cancelled one by one.
 use Rattle.std.proofs.Common.{◌≡◌, ◌∙◌, ℕ, ◌<◌, ◌==◌, ◌||◌, true, not, List, [], ◌∷◌, ◌++◌, length, map, filter, Some, None, IfSome, refl, ap, sym, arith, append_assoc, append-nil}
-use Rattle.napi_types.specs.plain.Lists.{has_number, head, tail, one}
+use Rattle.napi_types.specs.plain.Lists.{has_number, head, tail, singleton}
 use Rattle.napi_types.specs.parts.Pool.{WorkPool, cancelled_at, drained}
 use Rattle.napi_types.specs.parts.Works.{cancelled_outcome}
 use Rattle.napi_types.proofs.plain.Found.{same-self}
@@ -31,12 +31,12 @@ module _ (start p q : WorkPool) (n : ℕ) (first : head p.queued ≡ Some n) (re
   draining-more so_far = record {
     others = is ∙ ap (λ (r : WorkPool). record r {
       queued = filter (λ m. not (m == n)) p.queued;
-      finished = p.finished ++ one
+      finished = p.finished ++ singleton
           (cancelled_outcome n);
     }) so_far.others ∙ same _ _ _ _ (sym (ap (λ (r : WorkPool). r.queued) is)) (sym (ap (λ (r : WorkPool). r.finished) is));
     out = ap (λ os. os ++ map cancelled_outcome q.queued) (ap (λ (r : WorkPool). r.finished) is)
-        ∙ ap (λ ns. (p.finished ++ one (cancelled_outcome n)) ++ map cancelled_outcome ns) later
-        ∙ append_assoc p.finished (one (cancelled_outcome n)) (map cancelled_outcome (tail p.queued))
+        ∙ ap (λ ns. (p.finished ++ singleton (cancelled_outcome n)) ++ map cancelled_outcome ns) later
+        ∙ append_assoc p.finished (singleton (cancelled_outcome n)) (map cancelled_outcome (tail p.queued))
         ∙ ap (λ ns. p.finished ++ map cancelled_outcome ns) (sym (first-of p.queued n first))
         ∙ so_far.out;
   }

@@ -6,7 +6,7 @@ use Rattle.generation_slab.specs.HeldPlaces.{HeldValue, with_held, without_held,
 use Rattle.std.proofs.lemmas.Bool.{cases_lt}
 use Rattle.std.proofs.lemmas.List.Elements.{All-nil}
 use Rattle.napi_types.specs.declared.call.JobSpec.{JobSpec}
-use Rattle.napi_types.specs.plain.Lists.{found, has_number, with_record, with_number, one, head, tail}
+use Rattle.napi_types.specs.plain.Lists.{found, has_number, with_record, with_number, singleton, head, tail}
 use Rattle.napi_types.proofs.plain.Found.{IsRising, same-self, same-tells, apart-above}
 use Rattle.napi_types.proofs.plain.Maps.{filter_all}
 use Rattle.async_work.specs.WorkPlaces.{Placed, place_at, is_unqueued, with_place_number, with_number_at}
@@ -215,7 +215,7 @@ module _ (places : List (HeldValue Placed)) (issued : List ℕ) (line : List Num
         more_is,
         kept.room.queued_are,
         ap length (waiting-more line e p.spec waits_for),
-        length-append (waiting_works line) (one (length line + 1)),
+        length-append (waiting_works line) (singleton (length line + 1)),
       );
       numbers = omega (arith, kept.room.numbers, longer, fewer_is, some);
       few = kept.room.few;

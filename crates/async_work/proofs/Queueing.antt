@@ -6,7 +6,7 @@ use Rattle.std.proofs.lemmas.List.{length-set, map-append}
 use Rattle.std.proofs.lemmas.Option.{get_or_from_slice_get}
 use Rattle.std.proofs.lemmas.Bool.{ltb-true}
 use Rattle.napi_types.specs.declared.call.JobSpec.{JobSpec}
-use Rattle.napi_types.specs.plain.Lists.{found, has_number, one}
+use Rattle.napi_types.specs.plain.Lists.{found, has_number, singleton}
 use Rattle.napi_types.proofs.plain.Found.{IsRising, same-self, same-tells, found-same, found-filter, rising-filter, has-found, turned}
 use Rattle.napi_types.proofs.plain.Maps.{all-among}
 use Rattle.async_work.specs.declared.queue.EndedWork as code
@@ -142,7 +142,7 @@ waiting-less line others n less =
 
 -- one more waits
 pub waiting-more : (line : List NumberedWork) (e : NumberedWork) (s : JobSpec) → waiting_job e.stage ≡ Some s
-    → waiting_works (line ++ e ∷ []) ≡ waiting_works line ++ one (length line + 1)
+    → waiting_works (line ++ e ∷ []) ≡ waiting_works line ++ singleton (length line + 1)
 waiting-more line e s is = listed-push listed_number 1 line e ∙ ap (λ o. waiting_works line ++ cons_option (option_map (λ _. 1 + length line) o) []) is
     ∙ ap (λ n. waiting_works line ++ n ∷ []) (next (length line))
   where

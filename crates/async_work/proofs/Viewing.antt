@@ -3,7 +3,7 @@ use Rattle.std.proofs.Common.{◌≡◌, ◌∙◌, ℕ, ◌+◌, ◌-◌, ◌==
 use Rattle.std.proofs.lemmas.List.{length-set, map-append}
 use Rattle.napi_types.specs.declared.call.JobSpec.{JobSpec}
 use Rattle.generation_slab.specs.HeldPlaces.{HeldValue, with_held, without_held}
-use Rattle.napi_types.specs.plain.Lists.{one, with_record, with_number}
+use Rattle.napi_types.specs.plain.Lists.{singleton, with_record, with_number}
 use Rattle.napi_types.specs.parts.Pool.{WorkPool, executed_by, value_of_work, with_work, without_work, with_queued, cancelled_at, started_from, with_started, finished_at, with_finished, with_completed}
 use Rattle.napi_types.specs.parts.Works.{Work, Execution, Outcome}
 use Rattle.async_work.specs.WorkPlaces.{Placed, with_number_at, works_of}
@@ -19,7 +19,7 @@ same-pool : (ws vs : List Work) (is js : List ℕ) (n m : ℕ) (qs rs : List ℕ
     → let p : WorkPool = record { works = ws; issued = is; numbered = n; queued = qs; executions = xs; finished = os; closing = c } in p ≡ record { works = vs; issued = js; numbered = m; queued = rs; executions = ys; finished = us; closing = d }
 same-pool ws vs is js n m qs rs xs ys os us c d a b e f g h i = cc
 
-outcomes-more : (finished : List EndedWorkSeen) (o : EndedWorkSeen) → map outcome_of (finished ++ o ∷ []) ≡ map outcome_of finished ++ one (outcome_of o)
+outcomes-more : (finished : List EndedWorkSeen) (o : EndedWorkSeen) → map outcome_of (finished ++ o ∷ []) ≡ map outcome_of finished ++ singleton (outcome_of o)
 outcomes-more finished o = map-append outcome_of finished (o ∷ [])
 
 pub view-created : (places others : List (HeldValue Placed)) (issued news : List ℕ) (line : List NumberedWork) (finished : List EndedWorkSeen) (closing : Bool) (id : ℕ) (p : Placed)
@@ -73,7 +73,7 @@ module _ (places : List (HeldValue Placed)) (issued : List ℕ) (line : List Num
       (passed-over places issued line finished first created queued running closing spare finished_places kept lines n e there Ended refl))
       (executions-still places issued line finished first created queued running closing spare finished_places kept lines n e there Ended refl
       (only-waits e.stage job waits_for).idle)
-      (outcomes-more finished o ∙ ap (λ x. map outcome_of finished ++ one (outcome_of x)) o_is) refl)
+      (outcomes-more finished o ∙ ap (λ x. map outcome_of finished ++ singleton (outcome_of x)) o_is) refl)
 
   pub view-finished : (outcomes : List EndedWorkSeen) (o : EndedWorkSeen) (w : ℕ) → lines ≡ set line (n - 1) (with_stage Ended e) → outcomes ≡ finished
       ++ o ∷ []
@@ -86,7 +86,7 @@ module _ (places : List (HeldValue Placed)) (issued : List ℕ) (line : List Num
       (only-runs e.stage w runs).started)
       (executions-finished line (set line (n - 1) (with_stage Ended e)) n w kept.numbered_work.apart runs_here
       (fewer-run places issued line finished first created queued running closing spare finished_places kept lines n e there Ended refl))
-      (outcomes-more finished o ∙ ap (λ x. map outcome_of finished ++ one (outcome_of x)) o_is) refl)
+      (outcomes-more finished o ∙ ap (λ x. map outcome_of finished ++ singleton (outcome_of x)) o_is) refl)
       ∙ ap (λ x. finished_at w x (pool_of places issued line finished closing)) (sym executes)
 
   pub view-completed : (outcomes : List EndedWorkSeen) (o : EndedWorkSeen) → lines ≡ set line (n - 1) (with_stage Done e) → finished ≡ o ∷ outcomes

@@ -3,7 +3,7 @@
 ghost use Rattle.std.specs.Prelude.{◌≡◌, ℕ, ◌+◌, ◌++◌, ◌<◌, ◌^◌, ◌≤◌, true, false, [], IsSome, Some, OnOk, length};
 ghost use Rattle.std.specs.Option.{is_some, option_map_or};
 ghost use Rattle.std.specs.VecDeque.{deque_capacity, deque_len};
-ghost use Rattle.napi_types.specs.plain.Lists.{one};
+ghost use Rattle.napi_types.specs.plain.Lists.{singleton};
 ghost use Rattle.async_work.specs.Queue.{queue_seen, stage_seen, queue_stage_at, queue_id_at, waiting_job, runner, has_ended, is_done_in_queue, with_stage_at, queued_at, StillQueued, Runs, Ended, Done};
 ghost use Rattle.async_work.specs.Queue.{outcome_seen, ran_outcome, unstarted_outcome};
 
@@ -106,7 +106,7 @@ impl<J: Job> WorkQueue<J> {
         requires room { 0 < self.old.room }
         requires few { length self.old.works + 2 < 2 ^ 64 }
         ensures number { result ≡ length self.old.works + 1 }
-        ensures longer { self.new.works ≡ self.old.works ++ one (record { id = id; stage = StillQueued (J.spec job) }) }
+        ensures longer { self.new.works ≡ self.old.works ++ singleton (record { id = id; stage = StillQueued (J.spec job) }) }
         ensures room { self.new.room + 1 ≡ self.old.room }
     {
         let number = self.dropped + self.works.len() as u64 + 1;

@@ -7,7 +7,7 @@ use Rattle.std.specs.Ordering.{nat_cmp}
 use Rattle.std.proofs.lemmas.Bool.{cases_lt}
 use Rattle.std.proofs.lemmas.List.{get_or_default, length-append, length-map, map-append}
 use Rattle.std.proofs.lemmas.List.Elements.{All-nil, All-cons, All-head, All-tail, All-weaker, filter-append}
-use Rattle.napi_types.specs.plain.Lists.{one, as_map}
+use Rattle.napi_types.specs.plain.Lists.{singleton, as_map}
 use Rattle.napi_types.specs.parts.Graph.{StoreState, IsLive, number_in}
 use Rattle.napi_types.specs.environment.Environment.{TsfnRoot}
 use Rattle.napi_types.proofs.plain.Found.{IsRising, same-tells, apart-below, apart-above, passing, map-rising, rising-map, rising-changed, as_map-with_record, as_map-kept}
@@ -115,7 +115,7 @@ search-none n gap count rows rising all within position =
     none-kept n rows (λ i d inside same. absurd (lacks.at i d inside same))
 
 -- ONE ROW MORE
-pub kept-pushed : (rows : List RootRow) (r : RootRow) → r.kept ≡ true → kept_roots (rows ++ r ∷ []) ≡ kept_roots rows ++ one (root_of_row r)
+pub kept-pushed : (rows : List RootRow) (r : RootRow) → r.kept ≡ true → kept_roots (rows ++ r ∷ []) ≡ kept_roots rows ++ singleton (root_of_row r)
 kept-pushed rows r kept =
     ap (map root_of_row) (filter-append is_row_kept rows (r ∷ []) ∙ ap (λ b. filter is_row_kept rows ++ cond b (r ∷ []) []) kept)
     ∙ map-append root_of_row (filter is_row_kept rows) (r ∷ [])
@@ -127,7 +127,14 @@ rising-pushed rows r rising below =
 pub rows-pushed : (rows : List RootRow) (r : RootRow) (dropped : ℕ) (old new : Bool) → AreRootRows rows dropped old → r.kept ≡ true
     → (new ≡ true → (old ≡ true) × All (λ q. q.function.0 < r.function.0) rows) → AreRootRows (rows ++ r ∷ []) dropped new
 rows-pushed rows r dropped old new were kept above = record {
-  counted = omega (arith, were.counted, ap length (kept-pushed rows r kept), length-append (kept_roots rows) (one (root_of_row r)), length-append rows (r ∷ []));
+  counted = omega (
+    arith,
+    were.counted,
+    ap length (kept-pushed rows r kept),
+    length-append (kept_roots rows) (singleton (root_of_row r)),
+    length-append rows
+        (r ∷ []),
+  );
   few = omega (arith, were.few, length-append rows (r ∷ []));
   rising = λ rises. let facts = above rises in rising-pushed rows r (were.rising facts.0) facts.1;
 }

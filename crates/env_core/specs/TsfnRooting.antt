@@ -2,7 +2,7 @@
 use Rattle.std.specs.Prelude.{◌≡◌, ℕ, ◌+◌, ◌*◌, ◌<◌, ◌≤◌, ◌==◌, Bool, true, not, List, ◌++◌, length, map, filter, slice_index_or}
 use Rattle.std.specs.List.{All}
 use Rattle.napi_types.specs.declared.ids.HandleId.{HandleId}
-use Rattle.napi_types.specs.plain.Lists.{one, as_map}
+use Rattle.napi_types.specs.plain.Lists.{singleton, as_map}
 use Rattle.napi_types.specs.parts.Graph.{StoreState, IsLive, number_in}
 use Rattle.napi_types.specs.parts.Heap.{handle_value}
 use Rattle.napi_types.specs.environment.Environment.{Environment, TsfnRoot}
@@ -54,4 +54,4 @@ HasRootPlace room e = length e.tsfn_roots < room
 
 -- the function of this number keeps the value of a handle alive
 abbrev pub with_function_root : ℕ → HandleId → Environment → Environment
-with_function_root n f e = record e { tsfn_roots = e.tsfn_roots ++ one (record { function = n; value = handle_value e.heap f.0 }) }
+with_function_root n f e = record e { tsfn_roots = e.tsfn_roots ++ singleton (record { function = n; value = handle_value e.heap f.0 }) }

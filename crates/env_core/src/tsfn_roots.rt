@@ -2,7 +2,7 @@
 ghost use Rattle.std.specs.Prelude.{◌≡◌, ◌+◌, ◌*◌, ◌<◌, ◌≤◌, ◌^◌, ◌++◌, ◌==◌, not, true, [], None, length, map, filter, IsTrue, IfSome, OnOk};
 ghost use Rattle.std.specs.List.{All};
 ghost use Rattle.std.specs.VecDeque.{deque_len, deque_capacity};
-ghost use Rattle.napi_types.specs.plain.Lists.{one};
+ghost use Rattle.napi_types.specs.plain.Lists.{singleton};
 ghost use Rattle.value_store.specs.StoreChanges.{numbers_of};
 ghost use Rattle.env_core.specs.TsfnRooting.{kept_roots, AreRising, IsKeptAt, is_of_another};
 
@@ -111,7 +111,7 @@ impl TsfnRoots {
     /// Near constant time: now and then the roots move.
     pub fn push(&mut self, room: &mut RootRoom, function: TsfnId, value: ValueId)
         requires { length self.old < room.old }
-        ensures { self.new ≡ self.old ++ one (record { function = function.0; value = value.0 }) }
+        ensures { self.new ≡ self.old ++ singleton (record { function = function.0; value = value.0 }) }
     {
         if room.rows.capacity() <= self.rows.len() {
             close_up(&mut self.rows);

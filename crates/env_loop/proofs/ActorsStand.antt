@@ -2,7 +2,7 @@
 use Rattle.std.proofs.Common.{◌≡◌, ◌∙◌, Bool, false, cond, [], refl, ap, sym, subst, Some}
 use Rattle.std.proofs.lemmas.List.Elements.{All-cons, All-nil}
 use Rattle.napi_types.specs.declared.entry.Entry.{Entry}
-use Rattle.napi_types.specs.plain.Lists.{one}
+use Rattle.napi_types.specs.plain.Lists.{singleton}
 use Rattle.napi_types.specs.hub.ActorLaws.{ThreadStands}
 use Rattle.napi_types.specs.hub.Actors.{thread_calls, is_thread, is_worker, Free, Over, worker_along}
 use Rattle.napi_types.specs.hub.HistoryLaws.{StaysRunning}
@@ -17,7 +17,7 @@ thread-runs-stand n s new t x k of adds other = record {
   there = of.there;
   stands =
       subst (λ xs. ThreadStands n.limits.history n.threads n.workers t.number (thread_calls t.operations) xs (entries_made t) (calls_left t)) (sym adds.history)
-      (threads-stand n.limits.history n.threads n.workers t.number (entries_made t) (thread_calls t.operations) (calls_left t) s.history (one x) of.stands
+      (threads-stand n.limits.history n.threads n.workers t.number (entries_made t) (thread_calls t.operations) (calls_left t) s.history (singleton x) of.stands
       (All-cons (λ (y : Entry). is_thread t.number y.actor ≡ false) x [] other (All-nil (λ (y : Entry). is_thread t.number y.actor ≡ false))));
 }
 
@@ -26,7 +26,7 @@ worker-runs-stand n s new w x k of adds other = record {
   there = of.there;
   stands =
       ap (worker_along w.number (Some Free)) adds.history
-      ∙ workers-stand w.number s.history (one x)
+      ∙ workers-stand w.number s.history (singleton x)
       (All-cons (λ (y : Entry). is_worker w.number y.actor ≡ false) x [] other (All-nil (λ (y : Entry). is_worker w.number y.actor ≡ false)))
       ∙ of.stands;
   held = subst (λ (h : Hub). IsHeld h.pool w.number w.held) (sym adds.hub) (by w.held of.held);

@@ -12,7 +12,7 @@ use Rattle.napi_types.specs.declared.entry.Phase.{Phase}
 use Rattle.napi_types.specs.declared.entry.Reply.{Reply}
 use Rattle.napi_types.specs.declared.entry.SharedCall.{SharedCall}
 use Rattle.napi_types.specs.declared.status.Status.{Status}
-use Rattle.napi_types.specs.plain.Lists.{one, head}
+use Rattle.napi_types.specs.plain.Lists.{singleton, head}
 use Rattle.napi_types.specs.plain.Room.{Room, is_full}
 use Rattle.napi_types.specs.parts.Duties.{duties_of}
 use Rattle.napi_types.specs.parts.Frames.{Frame, ask_counted, asks_made, most_asks}
@@ -67,7 +67,7 @@ module _ (s : Setting) (plans : List Plan) (core : Core) (hub : Hub) (history : 
     (told : ReplyIsNoted plans all.registers core.env.frames r now.registers) (unseen : now.seen ≡ all.seen) where
   answered-recorded : Asks s all.registers core.env.frames (ask.Do c.call)
       → IsRecorded s core hub history all firsts
-      → RecordsOwn s (after_answer c r (length history + 1) core) (hub_step hub (handed_entry c r)).after (history ++ one (handed_entry c r)) now firsts
+      → RecordsOwn s (after_answer c r (length history + 1) core) (hub_step hub (handed_entry c r)).after (history ++ singleton (handed_entry c r)) now firsts
   answered-recorded asks recorded =
       let idle : Core = record core { awaited = None } in
       let rec : IsRecorded s idle hub history all firsts = settled s core hub history all firsts recorded in
@@ -105,15 +105,15 @@ answered-run s n plans old c r before after all now firsts led numbers of sound 
     ∙ ap (λ (g : Hub). is_full (history_room g (length before.history) n.limits.history) c.call) (sym same) ∙ fits in
     let asks : Asks s all.registers old.core.env.frames (ask.Do c.call) =
     subst (λ o. IfSome o (λ (d : SharedCall). Asks s all.registers old.core.env.frames (ask.Do d.call))) awaited joined.owed.call in
-    let recorded : RecordsOwn s (after_answer c r (length before.history + 1) old.core) (hub_step h x).after (before.history ++ one x) now firsts =
+    let recorded : RecordsOwn s (after_answer c r (length before.history + 1) old.core) (hub_step h x).after (before.history ++ singleton x) now firsts =
     answered-recorded s plans core h before.history all now firsts c r (record { count = of.count; first = of.first }) sound w
     (subst (λ (g : Hub). IsHubNext g x) same adds.next) room told unseen
     asks joined.recorded in
-    let P : ℕ → Hub → Type 0 = λ k g. RecordsOwn s (after_answer c r k old.core) g (before.history ++ one x) now firsts in
+    let P : ℕ → Hub → Type 0 = λ k g. RecordsOwn s (after_answer c r k old.core) g (before.history ++ singleton x) now firsts in
     let Q : List Entry → Type 0 = λ ks. RecordsOwn s (after_answer c r (length ks) old.core) (hub_along (opening_of s).hub ks) ks now firsts in
     let whole : Q after.history =
     subst Q (sym adds.history)
-    (subst (λ (k : ℕ). P k (hub_along (opening_of s).hub (before.history ++ one x))) (sym (length-append before.history (one x)))
+    (subst (λ (k : ℕ). P k (hub_along (opening_of s).hub (before.history ++ singleton x))) (sym (length-append before.history (singleton x)))
     (subst (λ (g : Hub). P (length before.history + 1) g) (sym (along-more (opening_of s).hub before.history x)) recorded)) in
     record { joined = record { recorded = whole.recorded; owed = record { call = tt; end = tt } }; own = λ none. whole.own }
 

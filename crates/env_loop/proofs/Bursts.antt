@@ -9,7 +9,7 @@ use Rattle.napi_types.specs.declared.entry.Entry.{Entry}
 use Rattle.napi_types.specs.declared.entry.SharedCall.{SharedCall}
 use Rattle.napi_types.specs.declared.entry.Why.{Why}
 use Rattle.napi_types.specs.declared.entry.Why.TheVariants as why
-use Rattle.napi_types.specs.plain.Lists.{one, head}
+use Rattle.napi_types.specs.plain.Lists.{singleton, head}
 use Rattle.napi_types.specs.parts.Frames.{Frame, asks_made, duty_of, is_hub_duty, most_asks}
 use Rattle.napi_types.specs.scripts.Plans.{Plan}
 use Rattle.napi_types.specs.environment.Environment.{Environment}
@@ -56,7 +56,7 @@ no-entries who s = record {
 
 pub one-entry : (who : Actor) (old new : HubSeen) → AddsEntryOf who old new → AddsEntriesOf who 1 old new
 one-entry who old new a = record {
-  entries = one a.entry;
+  entries = singleton a.entry;
   as_many = refl;
   by = All-cons (λ (x : Entry). x.actor ≡ who) a.entry [] a.by (All-nil (λ (x : Entry). x.actor ≡ who));
   next = (a.adds.next, tt);

@@ -12,7 +12,7 @@ use Rattle.napi_types.specs.declared.entry.Why.{Why}
 use Rattle.napi_types.specs.declared.entry.Why.TheVariants as why
 use Rattle.napi_types.specs.plain.Entries.{is_environment}
 use Rattle.napi_types.specs.plain.Guards.{is_shared}
-use Rattle.napi_types.specs.plain.Lists.{one}
+use Rattle.napi_types.specs.plain.Lists.{singleton}
 use Rattle.napi_types.specs.plain.Room.{Room, is_full, may_want_memory}
 use Rattle.napi_types.specs.scripts.Plans.{Registers}
 use Rattle.napi_types.specs.environment.Changes.{may_call}
@@ -164,7 +164,7 @@ fitting-runs-stand r before after x fits other adds = record {
   stage = subst (IsStageOf r.core.env.phase) (sym (ap (λ (h : Hub). h.stage) adds.hub ∙ kept.standing.stage)) fits.stage;
   standing = ap (λ (h : Hub). h.standing) adds.hub ∙ kept.standing.standing ∙ fits.standing;
   owned = subst (IsOwnedHub r.core.env.addons) (sym adds.hub) (kept.owned r.core.env.addons fits.owned);
-  noted = omega (arith, fits.noted, ap length adds.history ∙ length-append before.history (one x));
+  noted = omega (arith, fits.noted, ap length adds.history ∙ length-append before.history (singleton x));
 }
   where
     kept : KeepsHub before.hub (hub_step before.hub x).after

@@ -14,7 +14,7 @@ use Rattle.napi_types.specs.declared.entry.SharedCall.{SharedCall}
 use Rattle.napi_types.specs.declared.entry.Why.{Why}
 use Rattle.napi_types.specs.declared.ids.HandleId.{HandleId}
 use Rattle.napi_types.specs.plain.Entries.{host_entry, cut_of}
-use Rattle.napi_types.specs.plain.Lists.{one, tail}
+use Rattle.napi_types.specs.plain.Lists.{singleton, tail}
 use Rattle.napi_types.specs.parts.Duties.{duties_of}
 use Rattle.napi_types.specs.parts.Frames.{Frame, cause_of, duty_of, is_hub_duty, at_last_ask}
 use Rattle.napi_types.specs.scripts.Plans.{Plan, Registers}
@@ -130,7 +130,7 @@ module _ (s : Setting) (plans : List Plan) (core : Core) (hub : Hub) (history : 
       → Asks s all.registers core.env.frames a → IsHubNext hub (host_entry host.End (end_out cut core.env.pending))
       → RecordsOwn s (record core { env = (outermost_end_change cut core.env).after; position = length history + 1 })
       (hub_step hub (host_entry host.End (end_out cut core.env.pending))).after
-      (history ++ one (host_entry host.End (end_out cut core.env.pending))) all firsts
+      (history ++ singleton (host_entry host.End (end_out cut core.env.pending))) all firsts
   asked-end a v cut may is ends asks next =
       let m : Machine = machine_of s.limits core hub history in
       let x : Entry = host_entry host.End (end_out cut core.env.pending) in
@@ -146,7 +146,7 @@ module _ (s : Setting) (plans : List Plan) (core : Core) (hub : Hub) (history : 
       → IsHubNext hub (host_entry host.End (end_out (cut_at how) core.env.pending))
       → RecordsOwn s (record core { env = (outermost_end_change (cut_at how) core.env).after; position = length history + 1 })
       (hub_step hub (host_entry host.End (end_out (cut_at how) core.env.pending))).after
-      (history ++ one (host_entry host.End (end_out (cut_at how) core.env.pending))) all firsts
+      (history ++ singleton (host_entry host.End (end_out (cut_at how) core.env.pending))) all firsts
   end-recorded end.Leaves may next = asked-end (ask.Leave may.0) may.0 None (may_ask core.env) may.2 (λ o. refl) may.1 next
   end-recorded (end.Cut w) may next =
       asked-end may.0 None (Some w) (may_cut (machine_of s.limits core hub history) may.0 w) may.2 (λ o. refl) may.1 next
@@ -176,11 +176,11 @@ ended-run s n plans old how before after all firsts led numbers of sound f idle 
     subst (λ o. IfSome o (MayEndSo s all.registers (machine_of s.limits core h before.history))) owed joined.owed.end in
     let recorded = end-recorded s plans core h before.history all firsts (record { count = of.count; first = of.first }) sound f joined.recorded how may
     (subst (λ (g : Hub). IsHubNext g x) same adds.next) in
-    let P : ℕ → Hub → Type 0 = λ k g. RecordsOwn s (ended_run old how k).core g (before.history ++ one x) all firsts in
+    let P : ℕ → Hub → Type 0 = λ k g. RecordsOwn s (ended_run old how k).core g (before.history ++ singleton x) all firsts in
     let Q : List Entry → Type 0 = λ ks. RecordsOwn s (ended_run old how (length ks)).core (hub_along (opening_of s).hub ks) ks all firsts in
     let whole : Q after.history =
     subst Q (sym adds.history)
-    (subst (λ (k : ℕ). P k (hub_along (opening_of s).hub (before.history ++ one x))) (sym (length-append before.history (one x)))
+    (subst (λ (k : ℕ). P k (hub_along (opening_of s).hub (before.history ++ singleton x))) (sym (length-append before.history (singleton x)))
     (subst (λ (g : Hub). P (length before.history + 1) g) (sym (along-more (opening_of s).hub before.history x)) recorded)) in
     record { joined = record { recorded = whole.recorded; owed = record { call = if_some-none _ idle; end = tt } }; own = λ none. whole.own }
 
@@ -268,7 +268,8 @@ module _ (run old : Run) (how : FrameEnd) (core : Core) (begun : Option DueInfo)
       → AddsEntry before (host_entry host.End told) after → KeepsStage before.hub after.hub → after.hub.standing ≡ None → position ≡ length before.history + 1
       → (plans : List Plan) (all : AddonStates) → IsMadeHubTurn n plans old before all (record { core = core; begun = begun; ending = None }) after all
   ended-turn n told before after led fits tells adds keeps alone noted plans all =
-      let longer : position ≡ length after.history = noted ∙ sym (ap length adds.history ∙ length-append before.history (one (host_entry host.End told))) in
+      let longer : position ≡ length after.history = noted ∙ sym
+      (ap length adds.history ∙ length-append before.history (singleton (host_entry host.End told))) in
       let same : told ≡ end_out (cut_at how) run.core.env.pending =
       tells
       ∙ ap (λ c. (end_change None c run.core.env).entry.reply.out) reason

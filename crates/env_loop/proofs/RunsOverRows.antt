@@ -8,7 +8,7 @@ use Rattle.napi_types.specs.declared.entry.Actor.{Actor}
 use Rattle.napi_types.specs.declared.entry.Actor.TheVariants as actor
 use Rattle.napi_types.specs.declared.entry.Entry.{Entry}
 use Rattle.napi_types.specs.plain.Entries.{is_environment}
-use Rattle.napi_types.specs.plain.Lists.{one}
+use Rattle.napi_types.specs.plain.Lists.{singleton}
 use Rattle.napi_types.specs.parts.Pool.{executed_by, value_of_work}
 use Rattle.napi_types.specs.hub.ActorLaws.{ThreadStands}
 use Rattle.napi_types.specs.hub.Actors.{thread_calls, is_thread, is_worker, Free, worker_along}
@@ -91,8 +91,8 @@ still-runs limit threads workers w k prefix (x ∷ rest) h led replays others ru
     let stays : StaysRunning w k h (hub_step h x).after =
     running-stays-running limit threads workers w k prefix h x led replays.0 (All-head (λ (y : Entry). is_worker w y.actor ≡ false) x rest others) runs in
     let later : StillRuns w k (hub_step h x).after (hub_along (hub_step h x).after rest) =
-    still-runs limit threads workers w k (prefix ++ one x) rest (hub_step h x).after (leads-more limit threads workers prefix h x led replays.0 replays.1)
-    (subst (λ m. HubReplays limit (hub_step h x).after m rest) (sym (length-append prefix (one x))) replays.2)
+    still-runs limit threads workers w k (prefix ++ singleton x) rest (hub_step h x).after (leads-more limit threads workers prefix h x led replays.0 replays.1)
+    (subst (λ m. HubReplays limit (hub_step h x).after m rest) (sym (length-append prefix (singleton x))) replays.2)
     (All-tail (λ (y : Entry). is_worker w y.actor ≡ false) x rest others) stays.executed in
     record { executed = later.executed; value = later.value ∙ stays.value }
 
@@ -155,11 +155,11 @@ fits-along : (run : Run) (limit : ℕ) (prefix rest : List Entry) (h : Hub) → 
     → FitsHub run (record { hub = hub_along h rest; history = prefix ++ rest })
 fits-along run limit prefix [] h replays others fits = subst (λ xs. FitsHub run (record { hub = h; history = xs })) (sym (append-nil prefix)) fits
 fits-along run limit prefix (x ∷ rest) h replays others fits =
-    subst (λ xs. FitsHub run (record { hub = hub_along (hub_step h x).after rest; history = xs })) (append_assoc prefix (one x) rest)
-    (fits-along run limit (prefix ++ one x) rest (hub_step h x).after
-    (subst (λ m. HubReplays limit (hub_step h x).after m rest) (sym (length-append prefix (one x))) replays.2)
+    subst (λ xs. FitsHub run (record { hub = hub_along (hub_step h x).after rest; history = xs })) (append_assoc prefix (singleton x) rest)
+    (fits-along run limit (prefix ++ singleton x) rest (hub_step h x).after
+    (subst (λ m. HubReplays limit (hub_step h x).after m rest) (sym (length-append prefix (singleton x))) replays.2)
     (All-tail (λ (y : Entry). is_environment y.actor ≡ false) x rest others)
-    (fitting-runs-stand run (record { hub = h; history = prefix }) (record { hub = (hub_step h x).after; history = prefix ++ one x }) x fits
+    (fitting-runs-stand run (record { hub = h; history = prefix }) (record { hub = (hub_step h x).after; history = prefix ++ singleton x }) x fits
     (All-head (λ (y : Entry). is_environment y.actor ≡ false) x rest others) (record { next = replays.0; hub = refl; history = refl })))
 
 pub fitting-runs-stand-over : FittingRunsStandOverRows

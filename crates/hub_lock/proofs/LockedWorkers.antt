@@ -11,7 +11,7 @@ use Rattle.napi_types.specs.declared.entry.Duty.{Duty}
 use Rattle.napi_types.specs.declared.entry.Duty.TheVariants as duty
 use Rattle.napi_types.specs.declared.entry.Entry.{Entry}
 use Rattle.napi_types.specs.declared.entry.Out.{Out}
-use Rattle.napi_types.specs.plain.Lists.{head, one}
+use Rattle.napi_types.specs.plain.Lists.{head, singleton}
 use Rattle.napi_types.specs.plain.Room.{fits_in}
 use Rattle.napi_types.specs.hub.HistoryRoom.{history_room}
 use Rattle.napi_types.specs.parts.Jobs.{job_value}
@@ -149,12 +149,12 @@ along-running limit threads workers w m history (x ∷ rest) h led replays other
     let stays : StaysRunning w m h (hub_step h x).after =
     running-stays-running limit threads workers w m history h x led replays.0 (All-head (λ (y : Entry). is_worker w y.actor ≡ false) x rest others) runs in
     let fits = subst (λ (g : Hub). HubReplays limit g (length history) (x ∷ rest)) (sym led.hub) replays in
-    let grown : LeadsTo limit threads workers (history ++ one x) (hub_step h x).after = record {
+    let grown : LeadsTo limit threads workers (history ++ singleton x) (hub_step h x).after = record {
       replays = replays-more limit (new_hub threads workers) 0 history x led.replays fits.0
           (subst (λ k. IsTrue (fits_in (history_room (hub_along (new_hub threads workers) history) k limit) x.what)) (zero-more (length history)) fits.1);
       hub = along-more (new_hub threads workers) history x ∙ ap (λ (g : Hub). (hub_step g x).after) led.hub;
     } in
-    let later = along-running limit threads workers w m (history ++ one x) rest (hub_step h x).after grown
+    let later = along-running limit threads workers w m (history ++ singleton x) rest (hub_step h x).after grown
     (subst (λ k. HubReplays limit (hub_step h x).after k rest) (one-longer history x) replays.2)
     (All-tail (λ (y : Entry). is_worker w y.actor ≡ false) x rest others) stays.executed in
     (later.0, later.1 ∙ stays.value)
@@ -162,8 +162,8 @@ along-running limit threads workers w m history (x ∷ rest) h led replays other
     zero-more : (k : ℕ) → k ≡ 0 + k
     zero-more k = omega arith
 
-    one-longer : (xs : List Entry) (y : Entry) → length xs + 1 ≡ length (xs ++ one y)
-    one-longer xs y = sym (length-append xs (one y))
+    one-longer : (xs : List Entry) (y : Entry) → length xs + 1 ≡ length (xs ++ singleton y)
+    one-longer xs y = sym (length-append xs (singleton y))
 
 duty-closing : (d : Duty) (h : Hub) → h.pool.closing ≡ true → (without_duty d h).pool.closing ≡ true
 duty-closing (duty.Ticket t) h s = s

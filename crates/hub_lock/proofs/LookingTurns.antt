@@ -5,7 +5,7 @@ use Rattle.std.proofs.lemmas.List.Prefix.{front_rest}
 use Rattle.std.proofs.lemmas.List.Elements.{All-nil, All-cons}
 use mathlib.Core.List.{IsPrefix}
 use Rattle.napi_types.specs.declared.entry.Entry.{Entry}
-use Rattle.napi_types.specs.plain.Lists.{one}
+use Rattle.napi_types.specs.plain.Lists.{singleton}
 use Rattle.napi_types.specs.plain.Room.{most_entries}
 use Rattle.napi_types.specs.hub.HistoryRoom.{reserved_history}
 use Rattle.napi_types.specs.hub.Hub.{Hub, new_hub}
@@ -38,10 +38,11 @@ back h taken rows = record h { seen = rows; own = h.own ++ drop (length taken) r
 pub goes-on-none : (m t : ℕ) (s0 s1 : HubSeen) → s1 ≡ s0 → GoesOn m (rows_of t s0.history) (rows_of t s1.history)
 goes-on-none m t s0 s1 e = ([], subst (λ (s : HubSeen). rows_of t s.history ≡ rows_of t s0.history ++ []) (sym e) (sym (append-nil (rows_of t s0.history))), All-nil (λ (r : Row). r.pass ≡ m))
 
-pub goes-on-one : (m t : ℕ) (s0 s1 : HubSeen) (x : Entry) → pass_of t x.actor ≡ m → s1.history ≡ s0.history ++ one x → GoesOn m (rows_of t s0.history) (rows_of t s1.history)
+pub goes-on-one : (m t : ℕ) (s0 s1 : HubSeen) (x : Entry) → pass_of t x.actor ≡ m → s1.history ≡ s0.history ++ singleton x
+    → GoesOn m (rows_of t s0.history) (rows_of t s1.history)
 goes-on-one m t s0 s1 x is e = (
   row_of t x ∷ [],
-  ap (rows_of t) e ∙ rows-go-on t s0.history (one x),
+  ap (rows_of t) e ∙ rows-go-on t s0.history (singleton x),
   All-cons (λ (r : Row). r.pass ≡ m) (row_of t x) [] is (All-nil (λ (r : Row). r.pass ≡ m)),
 )
 
@@ -64,18 +65,20 @@ module _ (n : Numbers) (old new h : PassState) (taken : List Row) (s0 s1 : HubSe
       }
 
   -- a turn that added an entry
-  pub added : (x : Entry) → s1.history ≡ s0.history ++ one x → Added n old new x
+  pub added : (x : Entry) → s1.history ≡ s0.history ++ singleton x → Added n old new x
   added x grew =
       let rows = rows_of n.threads s0.history in
-      let more : rows_of n.threads s1.history ≡ rows ++ one (row_of n.threads x) = ap (rows_of n.threads) grew ∙ rows-go-on n.threads s0.history (one x) in
-      let now : new ≡ back (record old { holds = true }) rows (rows ++ one (row_of n.threads x)) =
-      e ∙ (ap (λ l. back h taken l) more ∙ (ap (λ l. back h l (rows ++ one (row_of n.threads x))) taken_is ∙ ap (λ (g : PassState). back g rows (rows ++ one (row_of n.threads x))) is)) in
-      let rest = front_rest (rows ++ one (row_of n.threads x)) rows (one (row_of n.threads x)) refl in
+      let more : rows_of n.threads s1.history ≡ rows ++ singleton (row_of n.threads x) = ap (rows_of n.threads) grew ∙ rows-go-on n.threads s0.history
+      (singleton x) in
+      let now : new ≡ back (record old { holds = true }) rows (rows ++ singleton (row_of n.threads x)) =
+      e ∙ (ap (λ l. back h taken l) more ∙ (ap (λ l. back h l (rows ++ singleton (row_of n.threads x))) taken_is ∙ ap
+      (λ (g : PassState). back g rows (rows ++ singleton (row_of n.threads x))) is)) in
+      let rest = front_rest (rows ++ singleton (row_of n.threads x)) rows (singleton (row_of n.threads x)) refl in
       record {
         same = record { lock = ap (λ (q : PassState). q.lock) now; number = ap (λ (q : PassState). q.number) now; free = ap (λ (q : PassState). q.holds) now };
         before = s0.history;
         seen = record {
-          rows = ap (λ (q : PassState). q.seen) now ∙ sym (rows-go-on n.threads s0.history (one x));
+          rows = ap (λ (q : PassState). q.seen) now ∙ sym (rows-go-on n.threads s0.history (singleton x));
           replays = subst (λ l. HubReplays n.limits.history (new_hub n.threads n.workers) 0 l) grew k.led.replays;
         };
         behind = p;
@@ -100,7 +103,7 @@ module _ (n : Numbers) (a b c : PassState) where
     before = y.before;
     seen = y.seen;
     behind = (x.before.0 ++ y.behind.0, sym (append_assoc a.seen x.before.0 y.behind.0) ∙ (ap (λ l. l ++ y.behind.0) x.before.1 ∙ y.behind.1));
-    own = y.own ∙ ap (λ l. l ++ one (row_of n.threads e)) x.own;
+    own = y.own ∙ ap (λ l. l ++ singleton (row_of n.threads e)) x.own;
   }
 
   pub looks : (Shows : HubSeen → Type 0) → HasLooked n a b → Looked n b c Shows → Looked n a c Shows

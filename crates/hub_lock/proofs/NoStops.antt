@@ -8,7 +8,7 @@ use Rattle.napi_types.specs.declared.entry.Entry.{Entry}
 use Rattle.napi_types.specs.declared.entry.Reply.{Reply}
 use Rattle.napi_types.specs.declared.status.Status.TheVariants as status
 use Rattle.napi_types.specs.plain.Entries.{is_environment}
-use Rattle.napi_types.specs.plain.Lists.{one, when}
+use Rattle.napi_types.specs.plain.Lists.{singleton, when}
 use Rattle.napi_types.specs.plain.Replies.{Answer}
 use Rattle.napi_types.specs.parts.Functions.{FunctionState, is_open, is_full_queue, is_blocking, most_threads}
 use Rattle.napi_types.specs.hub.Hub.{Hub, new_hub}
@@ -77,6 +77,6 @@ next-no-stop h t k c r kind next = by (hub_answer h (actor.Thread t) nothing_giv
 pub added-no-stop : (n : Numbers) (old new : PassState) (t k : ℕ) (c : Call) (r : Reply) → is_thread_call c ≡ true → Added n old new (thread_entry t k c r) → is_stop r.status ≡ false
 added-no-stop n old new t k c r kind a =
     let h = hub_along (new_hub n.threads n.workers) a.before in
-    let parts = prefixes-replay n.limits.history n.threads n.workers a.before (one (thread_entry t k c r)) _
+    let parts = prefixes-replay n.limits.history n.threads n.workers a.before (singleton (thread_entry t k c r)) _
     (record { replays = a.seen.replays; hub = refl }) in
     next-no-stop h t k c r kind parts.replays.0

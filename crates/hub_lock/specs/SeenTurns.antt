@@ -6,7 +6,7 @@ use Rattle.napi_types.specs.declared.entry.Entry.{Entry}
 use Rattle.napi_types.specs.declared.entry.HostStep.TheVariants as host
 use Rattle.napi_types.specs.declared.entry.What.{What}
 use Rattle.napi_types.specs.declared.entry.What.TheVariants as what
-use Rattle.napi_types.specs.plain.Lists.{one}
+use Rattle.napi_types.specs.plain.Lists.{singleton}
 use Rattle.napi_types.specs.hub.Hub.{new_hub}
 use Rattle.napi_types.specs.hub.Replays.{HubReplays}
 use Rattle.turn_lock.specs.declared.told.Row.{Row}
@@ -67,6 +67,6 @@ pub record HasLooked (n : Numbers) (old new : PassState) : Type 0 where
 pub record Added (n : Numbers) (old new : PassState) (x : Entry) : Type 0 where
   pub same : SamePass old new
   pub before : List Entry
-  pub seen : IsSeen n new (before ++ one x)
+  pub seen : IsSeen n new (before ++ singleton x)
   pub behind : IsPrefix old.seen (rows_of n.threads before)
-  pub own : new.own ≡ old.own ++ one (row_of n.threads x)
+  pub own : new.own ≡ old.own ++ singleton (row_of n.threads x)

@@ -6,7 +6,7 @@ use Rattle.napi_types.specs.declared.call.Call.TheVariants as call
 use Rattle.napi_types.specs.declared.ids.HandleId.{HandleId}
 use Rattle.napi_types.specs.declared.ids.ScopeKind.{ScopeKind}
 use Rattle.napi_types.specs.declared.ids.ScopeKind.TheVariants as scope_kind
-use Rattle.napi_types.specs.plain.Lists.{first_changed, one}
+use Rattle.napi_types.specs.plain.Lists.{first_changed, singleton}
 use Rattle.napi_types.specs.parts.Heap.{Heap, handle_value, handle_properties, handle_elements}
 use Rattle.napi_types.specs.parts.HeapCalls.{addon_effect}
 use Rattle.napi_types.specs.parts.HeapChanges.{in_scopes}
@@ -58,7 +58,7 @@ closing heap g = with-scopes heap (first_changed close_in heap.scopes) heap.scop
 escaping : (heap : Heap) (n v : ℕ) → IsLiveAmong heap.values v → IsConsistentHeap heap → ComesTo heap (with_escaped n v heap)
 escaping heap n v live g =
     let x : OpenHandle = record { handle = heap.handles + 1; value = v } in
-    with-held heap (first_changed (escape_in n x) heap.scopes) v g live (holds-first (one x) (escape_in n x) heap.scopes (escapes-in n x))
+    with-held heap (first_changed (escape_in n x) heap.scopes) v g live (holds-first (singleton x) (escape_in n x) heap.scopes (escapes-in n x))
 
 property-live : (heap : Heap) (h name : ℕ) → IsConsistentHeap heap
     → IsLiveAmong heap.values (unwrap_or (property_at name (handle_properties heap h)) undefined_value)

@@ -3,7 +3,7 @@ use Rattle.std.proofs.Common.{◌≡◌, ◌≤◌, arith, ℕ, ◌+◌, ◌==�
 use Rattle.std.specs.List.{All, count_by}
 use Rattle.std.proofs.lemmas.Bool.{ne_eqb, and_left}
 use Rattle.std.proofs.lemmas.List.Elements.{All-nil, All-cons}
-use Rattle.napi_types.specs.plain.Lists.{one, tail, first_changed}
+use Rattle.napi_types.specs.plain.Lists.{singleton, tail, first_changed}
 use Rattle.napi_types.specs.parts.Heap.{Heap}
 use Rattle.napi_types.specs.parts.HeapChanges.{with_handle, with_frame, without_frame}
 use Rattle.napi_types.specs.parts.Reach.{numbers}
@@ -71,13 +71,15 @@ abbrev next_held : Heap → ℕ → OpenHandle
 next_held heap v = record { handle = heap.handles + 1; value = v }
 
 pub with-held : (heap : Heap) (fs : List FrameScopes) (v : ℕ) → IsConsistentHeap heap → IsLiveAmong heap.values v
-    → Within (held_by_frames fs) (held_by_frames heap.scopes) (one (next_held heap v)) → ComesTo heap (record heap { scopes = fs; handles = heap.handles + 1 })
+    → Within (held_by_frames fs) (held_by_frames heap.scopes) (singleton (next_held heap v)) → ComesTo heap
+    (record heap { scopes = fs; handles = heap.handles + 1 })
 with-held heap fs v g live w = record {
   good = record {
-    handles = issued-next heap.handles (held_handles fs) (held_handles heap.scopes) (within-handles fs heap.scopes (one (next_held heap v)) w) g.handles;
+    handles = issued-next heap.handles (held_handles fs) (held_handles heap.scopes) (within-handles fs heap.scopes (singleton (next_held heap v)) w) g.handles;
     values = g.values;
     held =
-        within-all (IsLiveAmong heap.values) (values_of_handles fs) (values_of_handles heap.scopes) (one v) (within-values fs heap.scopes (one (next_held heap v)) w) g.held
+        within-all (IsLiveAmong heap.values) (values_of_handles fs) (values_of_handles heap.scopes) (singleton v)
+        (within-values fs heap.scopes (singleton (next_held heap v)) w) g.held
         (All-cons (IsLiveAmong heap.values) v [] live (All-nil (IsLiveAmong heap.values)));
     children = g.children;
     starting = g.starting;
@@ -95,7 +97,7 @@ with-held heap fs v g live w = record {
 pub with-handle : (heap : Heap) (v : ℕ) → IsConsistentHeap heap → IsLiveAmong heap.values v → ComesTo heap (with_handle v heap)
 with-handle heap v g live =
     with-held heap (first_changed (hold_in (next_held heap v)) heap.scopes) v g live
-    (holds-first (one (next_held heap v)) (hold_in (next_held heap v)) heap.scopes (holds-in (next_held heap v)))
+    (holds-first (singleton (next_held heap v)) (hold_in (next_held heap v)) heap.scopes (holds-in (next_held heap v)))
 
 pub with-frame : (heap : Heap) → IsConsistentHeap heap → ComesTo heap (with_frame heap)
 with-frame heap g = with-scopes heap (no_handles ∷ heap.scopes) heap.scope_numbers g (holds-entered heap.scopes)

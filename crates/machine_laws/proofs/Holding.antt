@@ -6,7 +6,7 @@ use Rattle.std.proofs.lemmas.Bool.{eqb-true, eq-eqb, and_from, and_parts}
 use Rattle.std.proofs.lemmas.List.Elements.{All-head, All-tail}
 use Rattle.std.proofs.lemmas.Option.{same_Some, none-some}
 use Rattle.napi_types.specs.declared.ids.ScopeKind.{ScopeKind}
-use Rattle.napi_types.specs.plain.Lists.{first_changed, tail, one, found}
+use Rattle.napi_types.specs.plain.Lists.{first_changed, tail, singleton, found}
 use Rattle.napi_types.specs.parts.ScopeChanges.{hold_at, hold_in, open_in, close_in, inside, escape_at, escape_in}
 use Rattle.napi_types.specs.parts.Scopes.{OpenHandle, Scope, FrameScopes, no_handles, value_in, value_in_scopes, gives, held_by_scopes, held_by_frame, held_by_frames}
 use Rattle.machine_laws.specs.Consistency.{held_handles, values_of_handles}
@@ -28,18 +28,24 @@ in-inside p s f = omega (arith, in-frame p (inside s f), in-frame p f, in-scopes
 abbrev pub HoldsMore : List OpenHandle → FrameScopes → FrameScopes → Type 0
 HoldsMore more old new = Within (held_by_frame new) (held_by_frame old) more
 
-holds-at : (x : OpenHandle) (own : List OpenHandle) (ss : List Scope) → HoldsMore (one x) (record { own = own; opened = ss }) (hold_at x own ss)
+holds-at : (x : OpenHandle) (own : List OpenHandle) (ss : List Scope) → HoldsMore (singleton x) (record { own = own; opened = ss }) (hold_at x own ss)
 holds-at x own [] p =
-    omega (arith, in-frame p (record { own = own ++ one x; opened = [] }), in-frame p (record { own = own; opened = [] }), tally-append p own (one x))
+    omega (
+      arith,
+      in-frame p (record { own = own ++ singleton x; opened = [] }),
+      in-frame p (record { own = own; opened = [] }),
+      tally-append p own
+          (singleton x),
+    )
 holds-at x own (s ∷ ss) p =
     omega (
       arith,
-      in-inside p (record s { held = s.held ++ one x }) (record { own = own; opened = ss }),
+      in-inside p (record s { held = s.held ++ singleton x }) (record { own = own; opened = ss }),
       in-inside p s (record { own = own; opened = ss }),
-      tally-append p s.held (one x),
+      tally-append p s.held (singleton x),
     )
 
-pub holds-in : (x : OpenHandle) (f : FrameScopes) → HoldsMore (one x) f (hold_in x f)
+pub holds-in : (x : OpenHandle) (f : FrameScopes) → HoldsMore (singleton x) f (hold_in x f)
 holds-in x f = holds-at x f.own f.opened
 
 pub opens-in : (kind : ScopeKind) (n : ℕ) (f : FrameScopes) → HoldsMore [] f (open_in kind n f)
@@ -52,7 +58,8 @@ closes-from own (s ∷ ss) p = omega (arith, in-inside p s (record { own = own; 
 pub closes-in : (f : FrameScopes) → HoldsMore [] f (close_in f)
 closes-in f = closes-from f.own f.opened
 
-escapes-at : (n : ℕ) (x : OpenHandle) (own : List OpenHandle) (ss : List Scope) → HoldsMore (one x) (record { own = own; opened = ss }) (escape_at n x own ss)
+escapes-at : (n : ℕ) (x : OpenHandle) (own : List OpenHandle) (ss : List Scope)
+    → HoldsMore (singleton x) (record { own = own; opened = ss }) (escape_at n x own ss)
 escapes-at n x own [] p = omega arith
 escapes-at n x own (s ∷ ss) p = here (s.number == n) (escapes-at n x own ss p)
   where
@@ -62,12 +69,12 @@ escapes-at n x own (s ∷ ss) p = here (s.number == n) (escapes-at n x own ss p)
     after : Bool → FrameScopes
     after b = cond b (inside (record s { used = true }) (hold_at x own ss)) (inside s (escape_at n x own ss))
 
-    here : (b : Bool) → count_by p (held_by_frame (escape_at n x own ss)) ≤ count_by p (held_by_frame frame) + count_by p (one x)
-        → count_by p (held_by_frame (after b)) ≤ count_by p (held_by_frame (inside s frame)) + count_by p (one x)
+    here : (b : Bool) → count_by p (held_by_frame (escape_at n x own ss)) ≤ count_by p (held_by_frame frame) + count_by p (singleton x)
+        → count_by p (held_by_frame (after b)) ≤ count_by p (held_by_frame (inside s frame)) + count_by p (singleton x)
     here true later = omega (arith, in-inside p (record s { used = true }) (hold_at x own ss), in-inside p s frame, holds-at x own ss p)
     here false later = omega (arith, later, in-inside p s (escape_at n x own ss), in-inside p s frame)
 
-pub escapes-in : (n : ℕ) (x : OpenHandle) (f : FrameScopes) → HoldsMore (one x) f (escape_in n x f)
+pub escapes-in : (n : ℕ) (x : OpenHandle) (f : FrameScopes) → HoldsMore (singleton x) f (escape_in n x f)
 escapes-in n x f = escapes-at n x f.own f.opened
 
 -- ALL FRAMES

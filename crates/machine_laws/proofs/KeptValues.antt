@@ -17,7 +17,7 @@ use Rattle.napi_types.specs.declared.ids.HandleId.{HandleId}
 use Rattle.napi_types.specs.declared.ids.TsfnId.{TsfnId}
 use Rattle.napi_types.specs.plain.Entries.{host_entry}
 use Rattle.napi_types.specs.plain.Guards.{is_shared}
-use Rattle.napi_types.specs.plain.Lists.{one}
+use Rattle.napi_types.specs.plain.Lists.{singleton}
 use Rattle.napi_types.specs.parts.Book.{Registration, registration_at}
 use Rattle.napi_types.specs.parts.Heap.{handle_value}
 use Rattle.napi_types.specs.environment.Changes.{issued_number}
@@ -81,15 +81,15 @@ keeps-then n a b c one two = record {
 
 -- one root more
 rooted-more : (n : ℕ) (e : Environment) (r : TsfnRoot)
-    → kept_by n (record e { tsfn_roots = e.tsfn_roots ++ one r }) ≡ kept_by n e ++ map (λ r. r.value) (filter (λ r. r.function == n) (one r))
+    → kept_by n (record e { tsfn_roots = e.tsfn_roots ++ singleton r }) ≡ kept_by n e ++ map (λ r. r.value) (filter (λ r. r.function == n) (singleton r))
 rooted-more n e r =
-    ap (map (λ (r : TsfnRoot). r.value)) (filter-append (λ (r : TsfnRoot). r.function == n) e.tsfn_roots (one r))
-    ∙ map-append (λ (r : TsfnRoot). r.value) (filter (λ r. r.function == n) e.tsfn_roots) (filter (λ r. r.function == n) (one r))
+    ap (map (λ (r : TsfnRoot). r.value)) (filter-append (λ (r : TsfnRoot). r.function == n) e.tsfn_roots (singleton r))
+    ∙ map-append (λ (r : TsfnRoot). r.value) (filter (λ r. r.function == n) e.tsfn_roots) (filter (λ r. r.function == n) (singleton r))
 
 root-keeps : (n : ℕ) (c : Call) (o : Out) (e : Environment) → KeepsOn n e (with_root c o e)
 root-keeps n (call.CreateThreadsafeFunction (Some f) entry maximum count finalizer context) (out.Function k) e =
     let r : TsfnRoot = record { function = k.0; value = handle_value e.heap f.0 } in
-    record { more = map (λ r. r.value) (filter (λ r. r.function == n) (one r)); kept = rooted-more n e r }
+    record { more = map (λ r. r.value) (filter (λ r. r.function == n) (singleton r)); kept = rooted-more n e r }
 root-keeps n (call.CreateThreadsafeFunction (Some f) entry maximum count finalizer context) o e = keeps-same n e e refl
 root-keeps n c o e = keeps-same n e e refl
 
@@ -197,12 +197,12 @@ module _ (m : Machine) (f : HandleId) (entry : Option ℕ) (maximum count : ℕ)
   creation = call.CreateThreadsafeFunction (Some f) entry maximum count finalizer context
 
   abbrev Kept : Environment → Type 0
-  Kept e = kept_by n.0 e ≡ kept_by n.0 m.env ++ one (handle_value m.env.heap f.0)
+  Kept e = kept_by n.0 e ≡ kept_by n.0 m.env ++ singleton (handle_value m.env.heap f.0)
 
-  new-kept : kept_by n.0 (with_root creation (out.Function n) m.env) ≡ kept_by n.0 m.env ++ one (handle_value m.env.heap f.0)
+  new-kept : kept_by n.0 (with_root creation (out.Function n) m.env) ≡ kept_by n.0 m.env ++ singleton (handle_value m.env.heap f.0)
   new-kept =
       let r : TsfnRoot = record { function = n.0; value = handle_value m.env.heap f.0 } in
-      rooted-more n.0 m.env r ∙ ap (λ b. kept_by n.0 m.env ++ map (λ r. r.value) (cond b (one r) [])) (eq-eqb n.0 n.0 refl)
+      rooted-more n.0 m.env r ∙ ap (λ b. kept_by n.0 m.env ++ map (λ r. r.value) (cond b (singleton r) [])) (eq-eqb n.0 n.0 refl)
 
   shared-new : (c : Call) (o : Out) → (shared_call_step m c o).entry.what ≡ what.Call creation → (shared_call_step m c o).entry.reply.out ≡ out.Function n
       → Kept (shared_call_step m c o).after.env

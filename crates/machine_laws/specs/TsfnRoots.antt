@@ -11,7 +11,7 @@ use Rattle.napi_types.specs.declared.entry.What.{What}
 use Rattle.napi_types.specs.declared.entry.What.TheVariants as what
 use Rattle.napi_types.specs.declared.ids.HandleId.{HandleId}
 use Rattle.napi_types.specs.declared.ids.TsfnId.{TsfnId}
-use Rattle.napi_types.specs.plain.Lists.{one}
+use Rattle.napi_types.specs.plain.Lists.{singleton}
 use Rattle.napi_types.specs.parts.Heap.{handle_value}
 use Rattle.napi_types.specs.environment.Environment.{Environment}
 use Rattle.napi_types.specs.runs.Machine.{Machine}
@@ -25,7 +25,7 @@ kept_by n e = map (λ r. r.value) (filter (λ r. r.function == n) e.tsfn_roots)
 abbrev pub NewFunctionsKeepTheirValue : Type 0
 NewFunctionsKeepTheirValue = (m : Machine) (a : Ask) (x : Entry) (f : HandleId) (entry : Option ℕ) (maximum count : ℕ) (finalizer : Option ℕ) (context : ℕ) (n : TsfnId)
     → IsNext m a x → x.what ≡ what.Call (call.CreateThreadsafeFunction (Some f) entry maximum count finalizer context) → x.reply.out ≡ out.Function n
-    → kept_by n.0 (after m a x).env ≡ kept_by n.0 m.env ++ one (handle_value m.env.heap f.0)
+    → kept_by n.0 (after m a x).env ≡ kept_by n.0 m.env ++ singleton (handle_value m.env.heap f.0)
 
 -- the entry tells that the function of this number finishes
 abbrev pub tells_finish : ℕ → What → Out → Bool

@@ -4,7 +4,7 @@ use Rattle.napi_types.specs.declared.call.Call.{Call}
 use Rattle.napi_types.specs.declared.call.Call.TheVariants as call
 use Rattle.napi_types.specs.declared.ids.RefId.{RefId}
 use Rattle.napi_types.specs.declared.status.Status.TheVariants as status
-use Rattle.napi_types.specs.plain.Lists.{one}
+use Rattle.napi_types.specs.plain.Lists.{singleton}
 use Rattle.napi_types.specs.parts.ReferenceRefusals.{references_of, count_refusal, reference_refusal}
 use Rattle.napi_types.specs.parts.References.{ReferenceMap, has_reference, most_count}
 use Rattle.napi_types.proofs.plain.Found.{apart-above, apart-below}
@@ -12,11 +12,12 @@ use Rattle.napi_reference.specs.declared.rows.ReferenceRow.{ReferenceRow}
 use Rattle.napi_reference.proofs.ReferenceNumbers.{IsReferenceRow, valued}
 
 -- a call that names a reference that is not there is refused
-pub refused_unknown : (m : ReferenceMap) (n : ℕ) (c : Call) → references_of c ≡ one n → has_reference m n ≡ false → reference_refusal m c ≡ Some status.InvalidArg
+pub refused_unknown : (m : ReferenceMap) (n : ℕ) (c : Call) → references_of c ≡ singleton n → has_reference m n ≡ false
+    → reference_refusal m c ≡ Some status.InvalidArg
 refused_unknown m n c names absent = rw (names, absent) refl
 
 -- one that names a reference that is there is refused for its count alone
-pub refused_known : (m : ReferenceMap) (n : ℕ) (c : Call) → references_of c ≡ one n → has_reference m n ≡ true → reference_refusal m c ≡ count_refusal m c
+pub refused_known : (m : ReferenceMap) (n : ℕ) (c : Call) → references_of c ≡ singleton n → has_reference m n ≡ true → reference_refusal m c ≡ count_refusal m c
 refused_known m n c names there = rw (names, there) refl
 
 pub add_of_gone : (m : ReferenceMap) (id : RefId) (row : ReferenceRow) → IsReferenceRow m id.0 row → is_some row.value ≡ false → None ≡ reference_refusal m (call.ReferenceRef id)

@@ -8,7 +8,7 @@ use Rattle.napi_types.specs.declared.entry.Duty.{Duty}
 use Rattle.napi_types.specs.declared.entry.Duty.TheVariants as duty
 use Rattle.napi_types.specs.declared.status.Status.{Status}
 use Rattle.napi_types.specs.declared.status.Status.TheVariants as status
-use Rattle.napi_types.specs.plain.Lists.{one}
+use Rattle.napi_types.specs.plain.Lists.{singleton}
 use Rattle.napi_types.specs.parts.Functions.{FunctionState, accepted_items, called, acquired, released, closed, first_taken, finished, done}
 use Rattle.napi_types.specs.hub.HubMoves.{HubMove, Delivers, Closes, Finishes}
 use Rattle.tsfn.specs.FunctionList.{with_function_changed, changed_there, functions_after_duty, functions_after_move}
@@ -39,7 +39,7 @@ there-few n m change le adds (Some f) fs few = changed-few n m f.id (change f) l
 -- CALLS
 called-few : (s : Option Status) (payload : ℕ) (f : FunctionState) → accepted_items (called s payload f) ≤ accepted_items f + 1
 called-few None payload f = omega arith
-called-few (Some status.Ok) payload f = omega (arith, length-append f.items (one payload))
+called-few (Some status.Ok) payload f = omega (arith, length-append f.items (singleton payload))
 called-few (Some status.Closing) payload f = omega arith
 called-few (Some _) payload f = omega arith
 

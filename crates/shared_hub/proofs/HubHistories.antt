@@ -4,7 +4,7 @@ use Rattle.napi_types.specs.declared.call.Call.{Call}
 use Rattle.napi_types.specs.declared.entry.Entry.{Entry}
 use Rattle.napi_types.specs.declared.entry.What.{What}
 use Rattle.napi_types.specs.declared.entry.What.TheVariants as what
-use Rattle.napi_types.specs.plain.Lists.{one}
+use Rattle.napi_types.specs.plain.Lists.{singleton}
 use Rattle.napi_types.specs.plain.Room.{fits_in, need, first_places}
 use Rattle.napi_types.specs.declared.duties.DueInfo.{DueInfo}
 use Rattle.napi_types.specs.hub.HistoryLaws.{LeadsTo, KeepsStanding}
@@ -57,7 +57,7 @@ fits-what (what.Host event) limit occupied fits = refl
 pub history-goes-on : (n : Numbers) (history : List Entry) (limit capacity room : ℕ) (x : Entry) → IsKeptHistory n history limit capacity → IsHubNext (led_by n history) x
     → length history + reserved_history (led_by n history) + places_beside x.what ≤ limit
     → length history + reserved_history (led_by n history) + places_beside x.what ≤ room → min first_places limit ≤ room
-    → IsKeptHistory n (history ++ one x) limit room
+    → IsKeptHistory n (history ++ singleton x) limit room
 history-goes-on n history limit capacity room x k next fits memory first = record {
   limit_is = k.limit_is;
   small = k.small;
@@ -75,10 +75,10 @@ history-goes-on n history limit capacity room x k next fits memory first = recor
     by l r s m bound grows le = omega (arith, grows, le)
 
     still : (bound : ℕ) → length history + reserved_history (led_by n history) + places_beside x.what ≤ bound
-        → length (history ++ one x) + reserved_history (led_by n (history ++ one x)) ≤ bound
+        → length (history ++ singleton x) + reserved_history (led_by n (history ++ singleton x)) ≤ bound
     still bound le =
-        subst (λ (g : Hub). length (history ++ one x) + reserved_history g ≤ bound) (sym (along-more (new_hub n.threads n.workers) history x))
-        (subst (λ l. l + reserved_history (hub_step (led_by n history) x).after ≤ bound) (sym (length-append history (one x)))
+        subst (λ (g : Hub). length (history ++ singleton x) + reserved_history g ≤ bound) (sym (along-more (new_hub n.threads n.workers) history x))
+        (subst (λ l. l + reserved_history (hub_step (led_by n history) x).after ≤ bound) (sym (length-append history (singleton x)))
         (by (length history) (reserved_history (led_by n history)) (reserved_history (hub_step (led_by n history) x).after) (places_beside x.what) bound
         (next-room n history limit capacity x k next) le))
 
@@ -87,7 +87,7 @@ pub state-goes-on : (n : Numbers) (history : List Entry) (limit capacity room : 
     → IsHubNext (led_by n history) x → AreFieldsOf (hub_step (led_by n history) x).after parts p
     → length history + reserved_history (led_by n history) + places_beside x.what ≤ limit
     → length history + reserved_history (led_by n history) + places_beside x.what ≤ room → min first_places limit ≤ room
-    → IsKeptHistory n (history ++ one x) limit room × AreFieldsOf (led_by n (history ++ one x)) parts p
+    → IsKeptHistory n (history ++ singleton x) limit room × AreFieldsOf (led_by n (history ++ singleton x)) parts p
 state-goes-on n history limit capacity room x parts p k next fields fits memory first = (
   history-goes-on n history limit capacity room x k next fits memory first,
   subst (λ (g : Hub). AreFieldsOf g parts p) (sym (along-more (new_hub n.threads n.workers) history x)) fields,
@@ -96,7 +96,7 @@ state-goes-on n history limit capacity room x parts p k next fields fits memory 
 -- an event has its place
 pub event-goes-on : (n : Numbers) (history : List Entry) (limit capacity : ℕ) (x : Entry) (parts : HubParts) (p : HubProgress) → IsKeptHistory n history limit capacity
     → IsHubNext (led_by n history) x → places_beside x.what ≡ 0 → AreFieldsOf (hub_step (led_by n history) x).after parts p
-    → IsKeptHistory n (history ++ one x) limit capacity × AreFieldsOf (led_by n (history ++ one x)) parts p
+    → IsKeptHistory n (history ++ singleton x) limit capacity × AreFieldsOf (led_by n (history ++ singleton x)) parts p
 event-goes-on n history limit capacity x parts p k next none fields =
     state-goes-on n history limit capacity capacity x parts p k next fields (plus _ _ none k.within) (plus _ _ none k.memory) k.first
   where
@@ -113,13 +113,14 @@ event-has-place n history limit capacity x k next none =
     by l r s m c grows is le = omega (arith, grows, is, le)
 
 -- the state has it
-pub adds-next : (n : Numbers) (history : List Entry) (x : Entry) → IsHubNext (led_by n history) x → AddsEntry (hub_seen n history) x (hub_seen n (history ++ one x))
+pub adds-next : (n : Numbers) (history : List Entry) (x : Entry) → IsHubNext (led_by n history) x
+    → AddsEntry (hub_seen n history) x (hub_seen n (history ++ singleton x))
 adds-next n history x next = record { next = next; hub = along-more (new_hub n.threads n.workers) history x; history = refl }
 
 -- an event comes next, and leaves these fields: the state with it
 pub event-kept : (n : Numbers) (history : List Entry) (limit capacity : ℕ) (x : Entry) (left : Hub) (parts : HubParts) (p : HubProgress) → IsKeptHistory n history limit capacity
     → ComesNext (led_by n history) x left → places_beside x.what ≡ 0 → AreFieldsOf left parts p
-    → IsKeptHistory n (history ++ one x) limit capacity × AreFieldsOf (led_by n (history ++ one x)) parts p
+    → IsKeptHistory n (history ++ singleton x) limit capacity × AreFieldsOf (led_by n (history ++ singleton x)) parts p
 event-kept n history limit capacity x left parts p k comes none fields =
     event-goes-on n history limit capacity x parts p k comes.next none (subst (λ (g : Hub). AreFieldsOf g parts p) (sym comes.after) fields)
 
@@ -127,7 +128,7 @@ event-kept n history limit capacity x left parts p k comes none fields =
 pub call-kept : (n : Numbers) (history : List Entry) (limit capacity room : ℕ) (x : Entry) (c : Call) (left : Hub) (parts : HubParts) (p : HubProgress)
     → IsKeptHistory n history limit capacity → ComesNext (led_by n history) x left → x.what ≡ what.Call c → AreFieldsOf left parts p
     → length history + reserved_history (led_by n history) + need c ≤ limit → length history + reserved_history (led_by n history) + need c ≤ room → min first_places limit ≤ room
-    → IsKeptHistory n (history ++ one x) limit room × AreFieldsOf (led_by n (history ++ one x)) parts p
+    → IsKeptHistory n (history ++ singleton x) limit room × AreFieldsOf (led_by n (history ++ singleton x)) parts p
 call-kept n history limit capacity room x c left parts p k comes is fields fits memory first =
     state-goes-on n history limit capacity room x parts p k comes.next (subst (λ (g : Hub). AreFieldsOf g parts p) (sym comes.after) fields) (with_need limit fits) (with_need room memory) first
   where
@@ -135,24 +136,24 @@ call-kept n history limit capacity room x c left parts p k comes is fields fits 
     with_need bound le = subst (λ w. length history + reserved_history (led_by n history) + places_beside w ≤ bound) (sym is) le
 
 -- the hub after an entry that comes next
-pub led-on : (n : Numbers) (history : List Entry) (x : Entry) (left : Hub) → ComesNext (led_by n history) x left → led_by n (history ++ one x) ≡ left
+pub led-on : (n : Numbers) (history : List Entry) (x : Entry) (left : Hub) → ComesNext (led_by n history) x left → led_by n (history ++ singleton x) ≡ left
 led-on n history x left comes = along-more (new_hub n.threads n.workers) history x ∙ comes.after
 
 -- what stays where the entry comes next, by what it leaves
 pub keeps-on : (n : Numbers) (history : List Entry) (x : Entry) (left : Hub) → ComesNext (led_by n history) x left → KeepsStanding (led_by n history) left
-    → KeepsStanding (led_by n history) (led_by n (history ++ one x))
+    → KeepsStanding (led_by n history) (led_by n (history ++ singleton x))
 keeps-on n history x left comes kept = subst (λ (g : Hub). KeepsStanding (led_by n history) g) (sym (led-on n history x left comes)) kept
 
 pub keeps-stage-on : (n : Numbers) (history : List Entry) (x : Entry) (left : Hub) → ComesNext (led_by n history) x left → KeepsStage (led_by n history) left
-    → KeepsStage (led_by n history) (led_by n (history ++ one x))
+    → KeepsStage (led_by n history) (led_by n (history ++ singleton x))
 keeps-stage-on n history x left comes kept = subst (λ (g : Hub). KeepsStage (led_by n history) g) (sym (led-on n history x left comes)) kept
 
 -- a call keeps how far the hub is, and what stands
 pub call-keeps : (n : Numbers) (history : List Entry) (x : Entry) (new : HubParts) → ComesNext (led_by n history) x (hub_with new (led_by n history))
-    → KeepsStanding (led_by n history) (led_by n (history ++ one x))
+    → KeepsStanding (led_by n history) (led_by n (history ++ singleton x))
 call-keeps n history x new comes = keeps-on n history x (hub_with new (led_by n history)) comes (record { stage = refl; standing = refl; threads = refl; workers = refl })
 
 -- a duty that begins stands
 pub begun-stands : (n : Numbers) (history : List Entry) (x : Entry) (left : Hub) (d : DueInfo) → ComesNext (led_by n history) x (record left { standing = Some d })
-    → (led_by n (history ++ one x)).standing ≡ Some d
+    → (led_by n (history ++ singleton x)).standing ≡ Some d
 begun-stands n history x left d comes = ap (λ (g : Hub). g.standing) (led-on n history x (record left { standing = Some d }) comes)

@@ -1,7 +1,7 @@
 -- What contracts see of a hub's state: its history, and the hub to which that has led.
 use Rattle.std.specs.Prelude.{◌≡◌, List, ◌++◌, length}
 use Rattle.napi_types.specs.declared.entry.Entry.{Entry}
-use Rattle.napi_types.specs.plain.Lists.{one}
+use Rattle.napi_types.specs.plain.Lists.{singleton}
 use Rattle.napi_types.specs.plain.Room.{Room}
 use Rattle.napi_types.specs.hub.HistoryRoom.{history_room}
 use Rattle.napi_types.specs.hub.Hub.{Hub, new_hub}
@@ -23,7 +23,7 @@ hub_seen n history = record { hub = led_by n history; history = history }
 pub record AddsEntry (old : HubSeen) (x : Entry) (new : HubSeen) : Type 0 where
   pub next : IsHubNext old.hub x
   pub hub : new.hub ≡ (hub_step old.hub x).after
-  pub history : new.history ≡ old.history ++ one x
+  pub history : new.history ≡ old.history ++ singleton x
 
 -- how far the hub is, and how many threads and workers there are
 pub record KeepsStage (old new : Hub) : Type 0 where

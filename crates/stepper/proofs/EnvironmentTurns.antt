@@ -7,7 +7,7 @@ use Rattle.napi_types.specs.declared.entry.Local.{Local}
 use Rattle.napi_types.specs.declared.entry.SharedCall.{SharedCall}
 use Rattle.napi_types.specs.declared.entry.Why.{Why}
 use Rattle.napi_types.specs.declared.entry.Why.TheVariants as why
-use Rattle.napi_types.specs.plain.Lists.{one}
+use Rattle.napi_types.specs.plain.Lists.{singleton}
 use Rattle.napi_types.specs.plain.Room.{is_full, one_if}
 use Rattle.napi_types.specs.parts.Frames.{duty_of, is_hub_duty}
 use Rattle.napi_types.specs.scripts.Plans.{Plan}
@@ -180,7 +180,7 @@ module _ (n : Numbers) (plans : List Plan) (old owing new : Run) (before after :
       x = t.made refl
 
       longer : length after.history ≡ length before.history + 1
-      longer = ap length x.adds.history ∙ length-append before.history (one x.entry)
+      longer = ap length x.adds.history ∙ length-append before.history (singleton x.entry)
 
       less : (z w limit a b e r : ℕ) (f : ℕ) → z ≡ w → a ≡ b + 1 → a + r ≤ limit → e ≡ 1 → 2 * (z + (limit - a)) + e < 2 * (w + (limit - b)) + f
       less z w limit a b e r f is more within none = omega (arith, is, more, within, none)

@@ -9,7 +9,7 @@ use Rattle.napi_types.specs.declared.entry.Actor.TheVariants as actor
 use Rattle.napi_types.specs.declared.entry.Entry.{Entry}
 use Rattle.napi_types.specs.declared.op.Op.{Op}
 use Rattle.napi_types.specs.plain.Entries.{is_environment}
-use Rattle.napi_types.specs.plain.Lists.{one}
+use Rattle.napi_types.specs.plain.Lists.{singleton}
 use Rattle.napi_types.specs.plain.Room.{one_if}
 use Rattle.napi_types.specs.scripts.Plans.{Plan}
 use Rattle.napi_types.specs.hub.Actors.{is_thread, is_worker}
@@ -130,9 +130,10 @@ module _ {J : Type 0} where
 
   -- the turn of one more, by addons that tell the same plans
   pub steps-more : (n : Numbers) (plans later : List Plan) (xs zs : List Actor) (who : Actor) (old mid new : Moment J) → Steps n plans xs old mid → later ≡ plans
-      → Steps n later (one who) mid new → zs ≡ xs ++ one who → Steps n plans zs old new
+      → Steps n later (singleton who) mid new → zs ≡ xs ++ singleton who → Steps n plans zs old new
   steps-more n plans later xs zs who old mid new first same second more =
-      subst (λ ys. Steps n plans ys old new) (sym more) (steps-then n plans xs (one who) old mid new first (subst (λ ps. Steps n ps (one who) mid new) same second))
+      subst (λ ys. Steps n plans ys old new) (sym more)
+      (steps-then n plans xs (singleton who) old mid new first (subst (λ ps. Steps n ps (singleton who) mid new) same second))
 
   -- AS ONE OF THEM GOES ON
   -- an actor stands while another one makes an entry
@@ -166,7 +167,7 @@ module _ {J : Type 0} where
   env-stand n plans old new xs led (inr (inr (inr (inr m)))) stand = same-stand n old.hub new.hub xs (ap (λ (r : RunAtHub). r.hub) m.same) stand
 
   pub environment-step : (n : Numbers) (plans : List Plan) (turn : LocalTurn) (old new : RunAtHub) (actors : List (ActorRun J)) → Stands n (moment_of old actors)
-      → EnvironmentSteps n plans turn old new → Steps n plans (one actor.Env) (moment_of old actors) (moment_of new actors)
+      → EnvironmentSteps n plans turn old new → Steps n plans (singleton actor.Env) (moment_of old actors) (moment_of new actors)
   environment-step n plans turn old new actors stands went = record {
     turns = (moment_of new actors, record { turn = went.turn; goes = went.kept.goes; actors = refl }, refl);
     lists = λ s scripts firsts numbers of followed has.
@@ -274,7 +275,7 @@ module _ {J : Type 0} where
         → FollowsOnAt n plans m.env.run before.history m.env.addons m.env.run after.history m.env.addons
     goes-after plans (inl made) = λ t firsts numbers of followed.
         subst (λ xs. IsFollowed t m.env.run xs m.env.addons firsts) (sym made.one.adds.history)
-        (others-may-add t m.env.run before.history (one made.one.entry) m.env.addons firsts followed
+        (others-may-add t m.env.run before.history (singleton made.one.entry) m.env.addons firsts followed
         (All-cons (λ (x : Entry). is_environment x.actor ≡ false) made.one.entry [] (not-env made.one) (All-nil (λ (x : Entry). is_environment x.actor ≡ false))))
     goes-after plans (inr stays) = λ t firsts numbers of followed. subst (λ (u : HubSeen). IsFollowed t m.env.run u.history m.env.addons firsts) (sym stays.hub) followed
 
@@ -331,7 +332,7 @@ module _ {J : Type 0} where
     lists-by t scripts numbers has (actor.Thread u) named is = lists-of t scripts numbers has (actor.Thread u) is s.turn
     lists-by t scripts numbers has (actor.Worker w) named is = lists-of t scripts numbers has (actor.Worker w) is s.turn
 
-    pub actor-step : (plans : List Plan) → Steps n plans (one (get_or (actors_of n) place actor.Env)) m (moment_of (record m.env { hub = after }) actors)
+    pub actor-step : (plans : List Plan) → Steps n plans (singleton (get_or (actors_of n) place actor.Env)) m (moment_of (record m.env { hub = after }) actors)
     actor-step plans = record {
       turns = (
         moment_of (record m.env { hub = after }) actors,
@@ -357,8 +358,9 @@ module _ {J : Type 0} where
       kept = record { addons = refl; limit = refl; others = refl; goes = goes-after plans s.turn };
     }
 
-    pub named-step : (plans : List Plan) (who : Actor) → get_or (actors_of n) place actor.Env ≡ who → Steps n plans (one who) m (moment_of (record m.env { hub = after }) actors)
-    named-step plans who is = subst (λ w. Steps n plans (one w) m (moment_of (record m.env { hub = after }) actors)) is (actor-step plans)
+    pub named-step : (plans : List Plan) (who : Actor) → get_or (actors_of n) place actor.Env ≡ who → Steps n plans (singleton who) m
+        (moment_of (record m.env { hub = after }) actors)
+    named-step plans who is = subst (λ w. Steps n plans (singleton w) m (moment_of (record m.env { hub = after }) actors)) is (actor-step plans)
 
     -- the entry of a turn lowers the measure, and else the actor stays still
     pub actor-falls : (run : Run) → (measure n run after < measure n run before) ⊎ ((after ≡ before) × IsStillAt n before s.actor)
@@ -368,5 +370,6 @@ module _ {J : Type 0} where
         less z limit a b r f more within = omega (arith, more, within)
 
         by : ActorTurns n (get_or m.actors place s.actor) before s.actor after → (measure n run after < measure n run before) ⊎ ((after ≡ before) × IsStillAt n before s.actor)
-        by (inl made) = inl (less _ _ _ _ _ (one_if (is_none run.ending)) (ap length made.one.adds.history ∙ length-append before.history (one made.one.entry)) s.led.1.within)
+        by (inl made) = inl (less _ _ _ _ _ (one_if (is_none run.ending))
+            (ap length made.one.adds.history ∙ length-append before.history (singleton made.one.entry)) s.led.1.within)
         by (inr stays) = inr (stays.hub, stays.still)

@@ -4,7 +4,7 @@ use Rattle.std.specs.List.{All}
 use Rattle.std.proofs.lemmas.List.{length-map, set-get_or, take_more, take_more_set}
 use Rattle.std.proofs.lemmas.List.Elements.{All-append, All-cons, All-get_or, All-nil, All-same}
 use Rattle.napi_types.specs.declared.entry.Actor.TheVariants as actor
-use Rattle.napi_types.specs.plain.Lists.{one}
+use Rattle.napi_types.specs.plain.Lists.{singleton}
 use Rattle.napi_types.specs.scripts.Plans.{Plan}
 use Rattle.shared_hub.specs.HubStates.{HubSeen}
 use Rattle.shared_hub.specs.KeptHubs.{IsLedHub}
@@ -68,10 +68,10 @@ module _ {J : Type 0} where
         let inside : k < length m.actors = omega (arith, within) in
         let there : k < length (actors_of n) = omega (arith, inside, ap length stands.actors.order, length-map m.actors actor_of) in
         subst (λ who. Steps n plans who m m) (sym (take-next k there))
-        (steps-then n plans (take k (actors_of n)) (one (get_or (actors_of n) k actor.Env)) m m m (resting-turns k (omega (arith, within)))
+        (steps-then n plans (take k (actors_of n)) (singleton (get_or (actors_of n) k actor.Env)) m m m (resting-turns k (omega (arith, within)))
         (actor-step n m k m.actors m.env.hub stands inside (resting-turn k inside) plans))
       where
-        take-next : (k : ℕ) → k < length (actors_of n) → take (suc k) (actors_of n) ≡ take k (actors_of n) ++ one (get_or (actors_of n) k actor.Env)
+        take-next : (k : ℕ) → k < length (actors_of n) → take (suc k) (actors_of n) ≡ take k (actors_of n) ++ singleton (get_or (actors_of n) k actor.Env)
         take-next k there = ap (λ i. take i (actors_of n)) (next k) ∙ take_more (actors_of n) k actor.Env there
           where
             next : (k : ℕ) → suc k ≡ k + 1
@@ -85,12 +85,13 @@ module _ {J : Type 0} where
   pub round-alone : (n : Numbers) (plans : List Plan) (old new : RunAtHub) (actors : List (ActorRun J)) → Stands n (moment_of old actors)
       → EnvironmentSteps n plans local.Made old new → All (RestsAt n old.hub) actors → RoundSteps n plans false (moment_of old actors) (moment_of new actors)
   round-alone n plans old new actors stands went rest =
-      let first : Steps n plans (one actor.Env) (moment_of old actors) (moment_of new actors) = environment-step n plans local.Made old new actors stands went in
+      let first : Steps n plans (singleton actor.Env) (moment_of old actors)
+      (moment_of new actors) = environment-step n plans local.Made old new actors stands went in
       let same : new.hub ≡ old.hub = (went.alone refl).0 in
       record {
         was = λ is. cc;
         steps = λ is.
-            steps-then n plans (one actor.Env) (actors_of n) (moment_of old actors) (moment_of new actors) (moment_of new actors) first
+            steps-then n plans (singleton actor.Env) (actors_of n) (moment_of old actors) (moment_of new actors) (moment_of new actors) first
             (all-rest n plans (moment_of new actors) first.stands (subst (IsLedHub n) (sym same) went.led) (subst (λ s. All (RestsAt n s) actors) (sym same) rest));
         falls = λ is. (went.alone refl).1;
       }

@@ -1,7 +1,7 @@
 //! The turns of a list, and those of a round.
 ghost use Rattle.std.specs.Prelude.{◌≡◌, ◌≤◌, length, map, IsTrue};
 ghost use Rattle.std.specs.List.{All};
-ghost use Rattle.napi_types.specs.plain.Lists.{one};
+ghost use Rattle.napi_types.specs.plain.Lists.{singleton};
 ghost use Rattle.addon_trait.specs.Addons.{TellSamePlans};
 ghost use Rattle.env_loop.specs.ActorTurns.{IsActorAt};
 ghost use Rattle.stepper.specs.GivenTurns.{run_at, moment_of};
@@ -51,7 +51,7 @@ fn give_turn<J: Job, N: Naming>(
     requires threads { threads ≡ N.numbers.threads }
     requires scheduled { IsActorAt N.numbers who }
     ensures plans { TellSamePlans (λ b. plan b) addons.old.items addons.new.items }
-    ensures went { Steps N.numbers (map (λ b. plan b) addons.old.items) (one who)
+    ensures went { Steps N.numbers (map (λ b. plan b) addons.old.items) (singleton who)
         (moment_of (run_at env.old hub.old (map (λ b. regs b) addons.old.items) (map (λ b. seen b) addons.old.items)) actors.old.items)
         (moment_of (run_at env.new hub.new (map (λ b. regs b) addons.new.items) (map (λ b. seen b) addons.new.items)) actors.new.items) }
 {

@@ -7,7 +7,7 @@ use Rattle.napi_types.specs.declared.entry.TsfnState.{TsfnState}
 use Rattle.napi_types.specs.declared.entry.TsfnState.TheVariants.{Open, Closing, Finished, Done}
 use Rattle.napi_types.specs.declared.status.Status.{Status}
 use Rattle.napi_types.specs.declared.status.Status.TheVariants as status
-use Rattle.napi_types.specs.plain.Lists.{head, tail, one}
+use Rattle.napi_types.specs.plain.Lists.{head, tail, singleton}
 use Rattle.napi_types.specs.parts.Functions.{FunctionState, is_open, called, most_threads, acquire_status, acquired, released, closed_state, closed, with_referenced, with_item_taken, first_taken}
 use Rattle.napi_types.specs.hub.HistoryRoom.{state_places, function_places}
 use Rattle.napi_types.specs.hub.HubMoves.{Closes, tsfn_move_in, tsfn_move}
@@ -26,7 +26,7 @@ same-change more f = record { id = refl; places = omega arith; busy = λ is. is 
 -- WHAT A FUNCTION HAS TO DO
 -- with an item more
 busy-longer : (f g : FunctionState) (payload : ℕ) (s : TsfnState) (items : List ℕ) → is_some (tsfn_move_in f s items) ≡ true
-    → is_some (tsfn_move_in g s (items ++ one payload)) ≡ true
+    → is_some (tsfn_move_in g s (items ++ singleton payload)) ≡ true
 busy-longer f g payload Open [] is = refl
 busy-longer f g payload Open (p ∷ items) is = refl
 busy-longer f g payload Closing [] is = refl
@@ -66,7 +66,7 @@ pub called-change : (s : Option Status) (payload : ℕ) (f : FunctionState) → 
 called-change None payload f = same-change 2 f
 called-change (Some status.Ok) payload f = record {
   id = refl;
-  places = longer (state_places f.finalizer f.state) (length f.items) (length (f.items ++ one payload)) (length-append f.items (one payload));
+  places = longer (state_places f.finalizer f.state) (length f.items) (length (f.items ++ singleton payload)) (length-append f.items (singleton payload));
   busy = busy-longer f (called (Some status.Ok) payload f) payload f.state f.items;
 }
   where

@@ -17,7 +17,7 @@ use Rattle.napi_types.specs.declared.status.Status.{Status}
 use Rattle.napi_types.specs.declared.status.Status.TheVariants as status
 use Rattle.napi_types.specs.plain.Entries.{host_entry}
 use Rattle.napi_types.specs.plain.Guards.{is_shared}
-use Rattle.napi_types.specs.plain.Lists.{one, unless}
+use Rattle.napi_types.specs.plain.Lists.{singleton, unless}
 use Rattle.napi_types.specs.plain.Replies.{accepts}
 use Rattle.napi_types.specs.parts.Pool.{WorkPool, number_of_work, cancelled_at, with_cancelled, work_refusal, state_refusal, work_state, work_at}
 use Rattle.napi_types.specs.parts.Works.{Work, Outcome, cancelled_outcome, is_queued, is_cancelled}
@@ -125,9 +125,9 @@ step-cancels m s w (others x other) ok is accepted =
     other-calls m.hub x (call.CancelAsyncWork w) other (sym (hub_step-what m.hub x) ∙ is) (and-right (has_room m x.what) (hub_step m.hub x).may ok) in cc
 
 -- THE LAW
-last-cancelled : (os : List Outcome) (k : ℕ) → list_any (λ o. (k == o.work) && is_cancelled o.status) (os ++ one (cancelled_outcome k)) ≡ true
+last-cancelled : (os : List Outcome) (k : ℕ) → list_any (λ o. (k == o.work) && is_cancelled o.status) (os ++ singleton (cancelled_outcome k)) ≡ true
 last-cancelled os k =
-    list_any-append (λ (o : Outcome). (k == o.work) && is_cancelled o.status) os (one (cancelled_outcome k))
+    list_any-append (λ (o : Outcome). (k == o.work) && is_cancelled o.status) os (singleton (cancelled_outcome k))
     ∙ or_right (list_any (λ (o : Outcome). (k == o.work) && is_cancelled o.status) os) _ (ap (λ b. (b && true) || false) (same-self k))
 
 pub accepted-cancels : AcceptedCancelsCancel

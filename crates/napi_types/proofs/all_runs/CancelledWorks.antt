@@ -9,7 +9,7 @@ use Rattle.napi_types.specs.declared.entry.Limits.{Limits}
 use Rattle.napi_types.specs.declared.status.Status.{Status}
 use Rattle.napi_types.specs.declared.status.Status.TheVariants as status
 use Rattle.napi_types.specs.plain.Entries.{begun_duty}
-use Rattle.napi_types.specs.plain.Lists.{tail, one}
+use Rattle.napi_types.specs.plain.Lists.{tail, singleton}
 use Rattle.napi_types.specs.plain.Room.{one_if}
 use Rattle.napi_types.specs.parts.Pool.{WorkPool, started_from, finished_at, value_of_work}
 use Rattle.napi_types.specs.parts.Works.{Outcome, cancelled_outcome, is_cancelled}
@@ -56,12 +56,12 @@ step-keeps : (k : ℕ) (h : Hub) (made begun started : Option Duty) (s : Status)
 step-keeps k h _ _ _ _ _ (keeps s n e) = stays k h.pool n.pool _ e.finished
 step-keeps k h _ _ _ _ _ (queues s id) = stays k h.pool h.pool _ refl
 step-keeps k h _ _ _ _ _ (cancels s m n waits is) =
-    subst (λ (g : Hub). cancelled_in k h.pool ≤ cancelled_in k g.pool + 0) (sym is) (at-least k h.pool.finished (one (cancelled_outcome m)) 0)
+    subst (λ (g : Hub). cancelled_in k h.pool ≤ cancelled_in k g.pool + 0) (sym is) (at-least k h.pool.finished (singleton (cancelled_outcome m)) 0)
 step-keeps k h _ _ _ _ _ (starts s w m later waits free) =
     subst (λ ns. cancelled_in k h.pool ≤ cancelled_in k (started_from ns w h.pool) + 0) (sym waits) (stays k h.pool h.pool 0 refl)
 step-keeps k h _ _ _ _ _ (works s w m runs) =
     subst (λ o. cancelled_in k h.pool ≤ cancelled_in k (finished_at w o h.pool) + 0) (sym runs)
-    (at-least k h.pool.finished (one (record { work = m; status = status.Ok; value = value_of_work h.pool m })) 0)
+    (at-least k h.pool.finished (singleton (record { work = m; status = status.Ok; value = value_of_work h.pool m })) 0)
 step-keeps k h _ _ _ _ _ (drains s n pool functions) =
     subst (λ (p : WorkPool). cancelled_in k h.pool ≤ cancelled_in k p + 0) (sym pool) (at-least k h.pool.finished (map cancelled_outcome h.pool.queued) 0)
 step-keeps k h _ _ _ _ _ (creates s addon target maximum count finalizer context) = stays k h.pool h.pool _ refl

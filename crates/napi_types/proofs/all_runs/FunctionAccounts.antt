@@ -13,7 +13,7 @@ use Rattle.napi_types.specs.declared.entry.TsfnState.TheVariants.{Open, Closing,
 use Rattle.napi_types.specs.declared.ids.TsfnId.{TsfnId}
 use Rattle.napi_types.specs.declared.status.Status.{Status}
 use Rattle.napi_types.specs.declared.status.Status.TheVariants as status
-use Rattle.napi_types.specs.plain.Lists.{found, head, tail, one}
+use Rattle.napi_types.specs.plain.Lists.{found, head, tail, singleton}
 use Rattle.napi_types.specs.plain.Room.{one_if}
 use Rattle.napi_types.specs.parts.Functions.{FunctionState, new_function, accepted_items, is_finished, is_done, called, acquired, released, with_referenced, closed_state, closed, first_taken, with_item_taken, finished, done}
 use Rattle.napi_types.specs.hub.Hub.{Hub}
@@ -73,14 +73,14 @@ is-function f t of = ap (λ m. m == f.id) of ∙ same-self f.id
 
 called-account : (f : FunctionState) (payload : ℕ) (s : Status) → ChangeAccount f (item_made s f) None (called (Some s) payload f)
 called-account f payload status.Ok =
-    let more : length (f.items ++ one payload) ≡ length f.items + 1 = length-append f.items (one payload) in
-    let next : f.taken + length (f.items ++ one payload) ≡ f.taken + length f.items + 1 = omega (arith, more) in
+    let more : length (f.items ++ singleton payload) ≡ length f.items + 1 = length-append f.items (singleton payload) in
+    let next : f.taken + length (f.items ++ singleton payload) ≡ f.taken + length f.items + 1 = omega (arith, more) in
     record {
       accepted = λ t j of.
           ap (λ n. one_if (nat_lt 0 j && not (nat_lt n j))) next ∙ span-more 0 (f.taken + length f.items) j (omega arith)
           ∙ ap (λ b. one_if (was_accepted j f) + one_if b) (sym (is-item f t j (accepted_items f + 1) of));
       items = λ t j of.
-          sym (plus (one_if (nat_lt f.taken j && not (nat_lt (f.taken + length (f.items ++ one payload)) j))))
+          sym (plus (one_if (nat_lt f.taken j && not (nat_lt (f.taken + length (f.items ++ singleton payload)) j))))
           ∙ ap (λ n. one_if (nat_lt f.taken j && not (nat_lt n j))) next ∙ span-more f.taken (f.taken + length f.items) j (omega arith)
           ∙ ap (λ b. one_if (has_item j f) + one_if b) (sym (is-item f t j (accepted_items f + 1) of));
       finalizer = λ t of. plus (one_if (has_finalizer f));
@@ -312,7 +312,8 @@ shut-account t h n functions = by (tsfn_at h t.0) refl
 
 -- one more is created
 created-account : (late : Bool) (t : TsfnId) (h : Hub) (addon : ℕ) (target : Target) (maximum count : ℕ) (finalizer : Option ℕ) (context : ℕ) (n : Hub)
-    → AreSoundFrom late 1 h.functions → n.functions ≡ h.functions ++ one (new_function (new_function_number h) addon target maximum count finalizer context)
+    → AreSoundFrom late 1 h.functions → n.functions ≡ h.functions ++ singleton
+    (new_function (new_function_number h) addon target maximum count finalizer context)
     → FunctionAccount t h (finalizer_duty (new_function_number h) finalizer) None n
 created-account late t h addon target maximum count finalizer context n sound functions = by (new_function_number h == t.0) refl
   where
@@ -320,7 +321,7 @@ created-account late t h addon target maximum count finalizer context n sound fu
     new = new_function (new_function_number h) addon target maximum count finalizer context
 
     now : tsfn_at n t.0 ≡ option_or (tsfn_at h t.0) (cond (new_function_number h == t.0) (Some new) None)
-    now = ap (numbered_function t.0) functions ∙ found-append (λ (f : FunctionState). f.id) t.0 h.functions (one new)
+    now = ap (numbered_function t.0) functions ∙ found-append (λ (f : FunctionState). f.id) t.0 h.functions (singleton new)
 
     never : (j : ℕ) → one_if (nat_lt 0 j && not (nat_lt (0 + 0) j)) ≡ 0
     never j = by (nat_lt 0 j)

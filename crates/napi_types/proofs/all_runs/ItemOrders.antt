@@ -13,7 +13,7 @@ use Rattle.napi_types.specs.declared.entry.Limits.{Limits}
 use Rattle.napi_types.specs.declared.status.Status.{Status}
 use Rattle.napi_types.specs.declared.status.Status.TheVariants as status
 use Rattle.napi_types.specs.plain.Entries.{begun_duty}
-use Rattle.napi_types.specs.plain.Lists.{head, tail, one}
+use Rattle.napi_types.specs.plain.Lists.{head, tail, singleton}
 use Rattle.napi_types.specs.parts.Functions.{FunctionState, new_function, accepted_items, called, acquired, released, with_referenced, closed, first_taken, with_item_taken, finished, done}
 use Rattle.napi_types.specs.hub.Hub.{Hub, is_past_drain}
 use Rattle.napi_types.specs.hub.HubCalls.{tsfn_at, item_made, finalizer_duty, new_function_number}
@@ -73,8 +73,8 @@ its-own f n = ap (λ b. cond b (n ∷ []) []) (same-self f.id)
 called-orders : (f : FunctionState) (payload : ℕ) (s : Status) → OrdersItems f.id (item_made s f) None (Some f) (Some (called (Some s) payload f))
 called-orders f payload status.Ok = record {
   accepted =
-      one-told (named_item f.id (item_made status.Ok f)) (accepted_items f) (f.taken + length (f.items ++ one payload)) (its-own f (accepted_items f + 1))
-      (let more = length-append f.items (one payload) in omega (arith, more));
+      one-told (named_item f.id (item_made status.Ok f)) (accepted_items f) (f.taken + length (f.items ++ singleton payload)) (its-own f (accepted_items f + 1))
+      (let more = length-append f.items (singleton payload) in omega (arith, more));
   taken = none-told [] f.taken f.taken refl refl;
 }
 called-orders f payload status.Closing = still f (record f { count = f.count - 1 }) refl refl
@@ -161,25 +161,27 @@ duty-orders late k h _ _ _ _ _ sound (creates s addon target maximum count final
     new : FunctionState
     new = new_function (new_function_number h) addon target maximum count finalizer context
 
-    now : numbered_function k (h.functions ++ one new) ≡ option_or (tsfn_at h k) (cond (new_function_number h == k) (Some new) None)
-    now = found-append (λ (f : FunctionState). f.id) k h.functions (one new)
+    now : numbered_function k (h.functions ++ singleton new) ≡ option_or (tsfn_at h k) (cond (new_function_number h == k) (Some new) None)
+    now = found-append (λ (f : FunctionState). f.id) k h.functions (singleton new)
 
     left : (o : Option FunctionState) → option_or o None ≡ o
     left None = refl
     left (Some f) = refl
 
     by : (b : Bool) → (new_function_number h == k) ≡ b
-        → OrdersItems k (finalizer_duty (new_function_number h) finalizer) None (tsfn_at h k) (numbered_function k (h.functions ++ one new))
+        → OrdersItems k (finalizer_duty (new_function_number h) finalizer) None (tsfn_at h k) (numbered_function k (h.functions ++ singleton new))
     by true is =
         let of : new_function_number h ≡ k = same-tells (new_function_number h) k is in
         let before : tsfn_at h k ≡ None = none-above late 1 k h.functions sound (omega (arith, of)) in
-        let there : numbered_function k (h.functions ++ one new) ≡ Some new = now ∙ ap (λ o. option_or o (cond (new_function_number h == k) (Some new) None)) before ∙ ap (λ b. cond b (Some new) None) is in
-        silent k _ None (tsfn_at h k) (numbered_function k (h.functions ++ one new)) (finalizer-silent k (new_function_number h) finalizer) refl
+        let there : numbered_function k (h.functions ++ singleton new) ≡ Some new = now ∙ ap
+        (λ o. option_or o (cond (new_function_number h == k) (Some new) None)) before ∙ ap (λ b. cond b (Some new) None) is in
+        silent k _ None (tsfn_at h k) (numbered_function k (h.functions ++ singleton new)) (finalizer-silent k (new_function_number h) finalizer) refl
         (ap accepted_of there ∙ sym (ap accepted_of before)) (ap taken_of there ∙ sym (ap taken_of before))
     by false is =
-        let there : numbered_function k (h.functions ++ one new) ≡ tsfn_at h k = now ∙ ap (λ b. option_or (tsfn_at h k) (cond b (Some new) None)) is ∙ left
+        let there : numbered_function k (h.functions ++ singleton new) ≡ tsfn_at h k = now ∙ ap (λ b. option_or (tsfn_at h k) (cond b (Some new) None)) is
+        ∙ left
         (tsfn_at h k) in
-        silent k _ None (tsfn_at h k) (numbered_function k (h.functions ++ one new)) (finalizer-silent k (new_function_number h) finalizer) refl
+        silent k _ None (tsfn_at h k) (numbered_function k (h.functions ++ singleton new)) (finalizer-silent k (new_function_number h) finalizer) refl
         (ap accepted_of there) (ap taken_of there)
 duty-orders late k h _ _ _ _ _ sound (changes s f change made begun n there how pool functions) = by (f.id == k) refl
   where

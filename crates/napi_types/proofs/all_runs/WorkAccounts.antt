@@ -6,7 +6,7 @@ use Rattle.napi_types.specs.declared.entry.Duty.{Duty}
 use Rattle.napi_types.specs.declared.entry.Duty.TheVariants as duty
 use Rattle.napi_types.specs.declared.status.Status.{Status}
 use Rattle.napi_types.specs.declared.status.Status.TheVariants as status
-use Rattle.napi_types.specs.plain.Lists.{found, has, has_number, with_record, tail, one}
+use Rattle.napi_types.specs.plain.Lists.{found, has, has_number, with_record, tail, singleton}
 use Rattle.napi_types.specs.plain.Room.{one_if}
 use Rattle.napi_types.specs.parts.Functions.{FunctionState}
 use Rattle.napi_types.specs.parts.Pool.{WorkPool, new_number, with_queued, cancelled_at, started_from, with_started, finished_at, with_finished, with_completed, drained, executed_by, value_of_work}
@@ -110,9 +110,10 @@ queued-account : (k id : ℕ) (p : WorkPool) (s : Status) → PoolAccount k p (S
 queued-account k id p s = record {
   given = span-more 0 p.numbered k (omega arith);
   placed =
-      by (count_by (λ m. k == m) p.queued) (count_by (λ m. k == m) (p.queued ++ one (new_number p))) (count_by (λ (x : Execution). k == x.work) p.executions)
+      by (count_by (λ m. k == m) p.queued) (count_by (λ m. k == m) (p.queued ++ singleton (new_number p)))
+      (count_by (λ (x : Execution). k == x.work) p.executions)
       (count_by (λ (o : Outcome). k == o.work) p.finished) (one_if (k == new_number p))
-      (tally-append (λ m. k == m) p.queued (one (new_number p)) ∙ ap (λ c. count_by (λ m. k == m) p.queued + c) (tally-one (λ m. k == m) (new_number p)));
+      (tally-append (λ m. k == m) p.queued (singleton (new_number p)) ∙ ap (λ c. count_by (λ m. k == m) p.queued + c) (tally-one (λ m. k == m) (new_number p)));
   ran = refl;
 }
   where
@@ -131,15 +132,16 @@ cancelled-account k m p s waits single = record {
       by (k == m) refl;
   ran =
       ap (λ c. count_by (λ (x : Execution). k == x.work) p.executions + c + 0)
-      (tally-append ran p.finished (one (cancelled_outcome m))
+      (tally-append ran p.finished (singleton (cancelled_outcome m))
       ∙ ap (λ c. count_by ran p.finished + c) (tally-one ran (cancelled_outcome m) ∙ ap one_if (uncancelled k m)) ∙ sym (plus (count_by ran p.finished)));
 }
   where
     ran : Outcome → Bool
     ran o = (k == o.work) && not (is_cancelled o.status)
 
-    finished : count_by (λ (o : Outcome). k == o.work) (p.finished ++ one (cancelled_outcome m)) ≡ count_by (λ (o : Outcome). k == o.work) p.finished + one_if (k == m)
-    finished = tally-append (λ (o : Outcome). k == o.work) p.finished (one (cancelled_outcome m))
+    finished : count_by (λ (o : Outcome). k == o.work) (p.finished ++ singleton (cancelled_outcome m)) ≡ count_by
+        (λ (o : Outcome). k == o.work) p.finished + one_if (k == m)
+    finished = tally-append (λ (o : Outcome). k == o.work) p.finished (singleton (cancelled_outcome m))
         ∙ ap (λ c. count_by (λ (o : Outcome). k == o.work) p.finished + c) (tally-one (λ (o : Outcome). k == o.work) (cancelled_outcome m))
 
     waits-once : 1 ≤ count_by (λ j. m == j) p.queued
@@ -147,21 +149,21 @@ cancelled-account k m p s waits single = record {
 
     by : (b : Bool) → (k == m) ≡ b
         → count_by (λ j. k == j) (filter (λ j. not (j == m)) p.queued) + count_by (λ (x : Execution). k == x.work) p.executions
-        + count_by (λ (o : Outcome). k == o.work) (p.finished ++ one (cancelled_outcome m)) + 0 ≡ places_in_pool k p + 0
+        + count_by (λ (o : Outcome). k == o.work) (p.finished ++ singleton (cancelled_outcome m)) + 0 ≡ places_in_pool k p + 0
     by true is =
         let it : k ≡ m = same-tells k m is in
         let none : count_by (λ j. k == j) (filter (λ j. not (j == m)) p.queued) ≡ 0 =
         ap (λ i. count_by (λ j. k == j) (filter (λ j. not (j == i)) p.queued)) (sym it) ∙ tally-gone k p.queued in
         let some : 1 ≤ count_by (λ j. k == j) p.queued = subst (λ i. 1 ≤ count_by (λ j. i == j) p.queued) (sym it) waits-once in
         once (count_by (λ j. k == j) p.queued) (count_by (λ j. k == j) (filter (λ j. not (j == m)) p.queued)) (count_by (λ (x : Execution). k == x.work) p.executions)
-        (count_by (λ (o : Outcome). k == o.work) p.finished) (count_by (λ (o : Outcome). k == o.work) (p.finished ++ one (cancelled_outcome m)))
+        (count_by (λ (o : Outcome). k == o.work) p.finished) (count_by (λ (o : Outcome). k == o.work) (p.finished ++ singleton (cancelled_outcome m)))
         none some single (finished ∙ ap (λ b. count_by (λ (o : Outcome). k == o.work) p.finished + one_if b) is)
       where
         once : (q q' e f f' : ℕ) → q' ≡ 0 → 1 ≤ q → q + e + f ≤ 1 → f' ≡ f + 1 → q' + e + f' + 0 ≡ q + e + f + 0
         once q q' e f f' none some single more = omega (arith, none, some, single, more)
     by false is =
         never (count_by (λ j. k == j) p.queued) (count_by (λ j. k == j) (filter (λ j. not (j == m)) p.queued)) (count_by (λ (x : Execution). k == x.work) p.executions)
-        (count_by (λ (o : Outcome). k == o.work) p.finished) (count_by (λ (o : Outcome). k == o.work) (p.finished ++ one (cancelled_outcome m)))
+        (count_by (λ (o : Outcome). k == o.work) p.finished) (count_by (λ (o : Outcome). k == o.work) (p.finished ++ singleton (cancelled_outcome m)))
         (tally-without m k p.queued is) (finished ∙ ap (λ b. count_by (λ (o : Outcome). k == o.work) p.finished + one_if b) is)
       where
         never : (q q' e f f' : ℕ) → q' ≡ q → f' ≡ f + 0 → q' + e + f' + 0 ≡ q + e + f + 0
@@ -225,18 +227,21 @@ worked-account k w m p s runs rises =
         let left : count_by (λ (y : Execution). k == y.work) (filter (λ (y : Execution). not (y.worker == w)) p.executions) + one_if (k == m) ≡ count_by (λ (y : Execution). k == y.work) p.executions =
         ap (λ j. count_by (λ (y : Execution). k == y.work) (filter (λ (y : Execution). not (y.worker == w)) p.executions) + one_if (k == j)) (sym work)
         ∙ tally-lost (λ (y : Execution). y.worker) (λ (y : Execution). k == y.work) w x p.executions rises there in
-        let more : count_by (λ (o : Outcome). k == o.work) (p.finished ++ one last) ≡ count_by (λ (o : Outcome). k == o.work) p.finished + one_if (k == m) =
-        tally-append (λ (o : Outcome). k == o.work) p.finished (one last) ∙ ap (λ c. count_by (λ (o : Outcome). k == o.work) p.finished + c) (tally-one (λ (o : Outcome). k == o.work) last) in
-        let uncancelled : count_by ran (p.finished ++ one last) ≡ count_by ran p.finished + one_if (k == m) =
-        tally-append ran p.finished (one last) ∙ ap (λ c. count_by ran p.finished + c) (tally-one ran last ∙ ap one_if (and-true (k == m))) in
+        let more : count_by (λ (o : Outcome). k == o.work) (p.finished ++ singleton last) ≡ count_by (λ (o : Outcome). k == o.work) p.finished + one_if
+        (k == m) =
+        tally-append (λ (o : Outcome). k == o.work) p.finished (singleton last) ∙ ap (λ c. count_by (λ (o : Outcome). k == o.work) p.finished + c)
+        (tally-one (λ (o : Outcome). k == o.work) last) in
+        let uncancelled : count_by ran (p.finished ++ singleton last) ≡ count_by ran p.finished + one_if (k == m) =
+        tally-append ran p.finished (singleton last) ∙ ap (λ c. count_by ran p.finished + c) (tally-one ran last ∙ ap one_if (and-true (k == m))) in
         record {
           given = plus (given_in_pool k p);
           placed = placed (count_by (λ j. k == j) p.queued) (count_by (λ (y : Execution). k == y.work) p.executions)
               (count_by (λ (y : Execution). k == y.work) (filter (λ (y : Execution). not (y.worker == w)) p.executions))
-              (count_by (λ (o : Outcome). k == o.work) p.finished) (count_by (λ (o : Outcome). k == o.work) (p.finished ++ one last)) (one_if (k == m)) left more;
+              (count_by (λ (o : Outcome). k == o.work) p.finished) (count_by (λ (o : Outcome). k == o.work) (p.finished ++ singleton last))
+              (one_if (k == m)) left more;
           ran = kept (count_by (λ (y : Execution). k == y.work) p.executions)
               (count_by (λ (y : Execution). k == y.work) (filter (λ (y : Execution). not (y.worker == w)) p.executions))
-              (count_by ran p.finished) (count_by ran (p.finished ++ one last)) (one_if (k == m)) left uncancelled;
+              (count_by ran p.finished) (count_by ran (p.finished ++ singleton last)) (one_if (k == m)) left uncancelled;
         }
 
 drained-account : (k : ℕ) (p : WorkPool) (s : Status) → PoolAccount k p None None None s (drained p)

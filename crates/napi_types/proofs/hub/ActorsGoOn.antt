@@ -4,7 +4,7 @@ use Rattle.std.proofs.lemmas.List.Elements.{All-head, All-tail}
 use Rattle.std.specs.List.{All}
 use Rattle.napi_types.specs.declared.call.Call.{Call}
 use Rattle.napi_types.specs.declared.entry.Entry.{Entry}
-use Rattle.napi_types.specs.plain.Lists.{one}
+use Rattle.napi_types.specs.plain.Lists.{singleton}
 use Rattle.napi_types.specs.plain.Room.{one_if}
 use Rattle.napi_types.specs.hub.Actors.{is_thread, IsNextOfThread, left_after, KeepsScriptFrom, left_along, is_worker, WorkerState, Free, worker_after, does_next, worker_along}
 use Rattle.napi_types.specs.hub.ActorLaws.{entries_of_thread, ThreadsGoOn, ThreadsStandAsOthersGoOn, WorkersGoOn, WorkersStandAsOthersGoOn}
@@ -15,7 +15,7 @@ use Rattle.napi_types.proofs.plain.Tallies.{none-more, tally-cons, tally-append,
 
 -- A THREAD'S NEXT ENTRY
 next-left : (t : ℕ) (left : Option (List Call)) (xs : List Entry) (x : Entry)
-    → left_along t left (xs ++ one x) ≡ cond (is_thread t x.actor) (left_after (left_along t left xs) x.what) (left_along t left xs)
+    → left_along t left (xs ++ singleton x) ≡ cond (is_thread t x.actor) (left_after (left_along t left xs) x.what) (left_along t left xs)
 next-left t left [] x = refl
 next-left t left (y ∷ ys) x = next-left t (cond (is_thread t y.actor) (left_after left y.what) left) ys x
 
@@ -50,7 +50,7 @@ made_behind t made y = cond (is_thread t y.actor) (made + 1) made
 
 next-keeps : (limit t : ℕ) (h : Hub) (n made : ℕ) (left : Option (List Call)) (xs : List Entry) (x : Entry) → KeepsScriptFrom limit t h n made left xs
     → (is_thread t x.actor ≡ true → NextAt limit (hub_along h xs) (n + length xs) (made + entries_of_thread t xs) (left_along t left xs) x)
-    → KeepsScriptFrom limit t h n made left (xs ++ one x)
+    → KeepsScriptFrom limit t h n made left (xs ++ singleton x)
 next-keeps limit t h n made left [] x keeps next =
     (λ its. next-at limit h (n + 0) n (made + 0) made left left x (no-more n) (no-more made) refl (next its), tt)
 next-keeps limit t h n made left (y ∷ ys) x keeps next = (
@@ -69,7 +69,7 @@ threads-go-on limit threads workers t made calls left history x k its next = rec
   keeps = next-keeps limit t (new_hub threads workers) 0 0 (Some calls) history x k.keeps (λ its.
       next-at limit (hub_along (new_hub threads workers) history) (length history) (0 + length history) made (0 + entries_of_thread t history) left
       (left_along t (Some calls) history) x (sym (none-more (length history))) (sym (none-more (entries_of_thread t history) ∙ k.made_is)) (sym k.left_is) next);
-  made_is = tally-append (λ (z : Entry). is_thread t z.actor) history (one x) ∙ ap (λ n. n + entries_of_thread t (one x)) k.made_is
+  made_is = tally-append (λ (z : Entry). is_thread t z.actor) history (singleton x) ∙ ap (λ n. n + entries_of_thread t (singleton x)) k.made_is
       ∙ ap (λ n. made + n) (tally-one (λ (z : Entry). is_thread t z.actor) x ∙ ap one_if its);
   left_is = next-left t (Some calls) history x ∙ ap (λ b. cond b (left_after before x.what) before) its ∙ ap (λ o. left_after o x.what) k.left_is;
 }
@@ -128,7 +128,7 @@ threads-stand limit threads workers t made calls left history rest k others = re
 }
 
 -- WORKERS
-next-along : (w : ℕ) (s : Option WorkerState) (xs : List Entry) (x : Entry) → worker_along w s (xs ++ one x) ≡ does_next w x (worker_along w s xs)
+next-along : (w : ℕ) (s : Option WorkerState) (xs : List Entry) (x : Entry) → worker_along w s (xs ++ singleton x) ≡ does_next w x (worker_along w s xs)
 next-along w s [] x = refl
 next-along w s (y ∷ ys) x = next-along w (does_next w y s) ys x
 

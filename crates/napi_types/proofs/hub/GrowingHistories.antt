@@ -1,7 +1,7 @@
 -- A history that grows at its end, and its prefixes.
 use Rattle.std.proofs.Common.{◌≡◌, ◌∙◌, ℕ, ◌+◌, suc, List, [], ◌∷◌, ◌++◌, length, IsTrue, refl, ap, sym, subst, arith}
 use Rattle.napi_types.specs.declared.entry.Entry.{Entry}
-use Rattle.napi_types.specs.plain.Lists.{one}
+use Rattle.napi_types.specs.plain.Lists.{singleton}
 use Rattle.napi_types.specs.plain.Room.{fits_in}
 use Rattle.napi_types.specs.hub.HistoryLaws.{LeadsTo, PrefixesReplay}
 use Rattle.napi_types.specs.hub.HistoryRoom.{history_room}
@@ -9,12 +9,12 @@ use Rattle.napi_types.specs.hub.Hub.{Hub, new_hub}
 use Rattle.napi_types.specs.hub.HubSteps.{IsHubNext, hub_step, hub_along}
 use Rattle.napi_types.specs.hub.Replays.{HubReplays}
 
-pub along-more : (h : Hub) (xs : List Entry) (x : Entry) → hub_along h (xs ++ one x) ≡ (hub_step (hub_along h xs) x).after
+pub along-more : (h : Hub) (xs : List Entry) (x : Entry) → hub_along h (xs ++ singleton x) ≡ (hub_step (hub_along h xs) x).after
 along-more h [] x = refl
 along-more h (y ∷ ys) x = along-more (hub_step h y).after ys x
 
 pub replays-more : (limit : ℕ) (h : Hub) (n : ℕ) (xs : List Entry) (x : Entry) → HubReplays limit h n xs → IsHubNext (hub_along h xs) x
-    → IsTrue (fits_in (history_room (hub_along h xs) (n + length xs) limit) x.what) → HubReplays limit h n (xs ++ one x)
+    → IsTrue (fits_in (history_room (hub_along h xs) (n + length xs) limit) x.what) → HubReplays limit h n (xs ++ singleton x)
 replays-more limit h n [] x replays next fits = (next, subst (λ k. IsTrue (fits_in (history_room h k limit) x.what)) (zero-right n) fits, tt)
   where
     zero-right : (n : ℕ) → n + 0 ≡ n
@@ -31,7 +31,7 @@ replays-more limit h n (y ∷ ys) x replays next fits = (
 
 -- one entry more leads to the hub after it
 pub leads-more : (limit threads workers : ℕ) (history : List Entry) (h : Hub) (x : Entry) → LeadsTo limit threads workers history h → IsHubNext h x
-    → IsTrue (fits_in (history_room h (length history) limit) x.what) → LeadsTo limit threads workers (history ++ one x) (hub_step h x).after
+    → IsTrue (fits_in (history_room h (length history) limit) x.what) → LeadsTo limit threads workers (history ++ singleton x) (hub_step h x).after
 leads-more limit threads workers history h x led next fits = record {
   replays = replays-more limit (new_hub threads workers) 0 history x led.replays (subst (λ g. IsHubNext g x) (sym led.hub) next)
       (subst (λ n. IsTrue (fits_in (history_room (hub_along (new_hub threads workers) history) n limit) x.what)) (zero-left (length history))

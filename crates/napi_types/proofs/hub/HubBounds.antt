@@ -12,7 +12,7 @@ use Rattle.napi_types.specs.declared.entry.Entry.{Entry}
 use Rattle.napi_types.specs.declared.entry.Out.{Out}
 use Rattle.napi_types.specs.declared.status.Status.{Status}
 use Rattle.napi_types.specs.declared.status.Status.TheVariants as status
-use Rattle.napi_types.specs.plain.Lists.{with_number, one}
+use Rattle.napi_types.specs.plain.Lists.{with_number, singleton}
 use Rattle.napi_types.specs.parts.Functions.{FunctionState, new_function, accepted_items, called, acquired, released, closed, finished, done, first_taken, acquire_status, release_status}
 use Rattle.napi_types.specs.parts.Pool.{WorkPool, cancelled_at, number_of_work, started_from, finished_at, executed_by}
 use Rattle.napi_types.specs.hub.GivenSteps.{work_number}
@@ -64,7 +64,7 @@ changed-few n k change adds (f ∷ fs) few =
     by false here = omega (arith, here)
 
 called-adds : (s : Status) (payload : ℕ) (f : FunctionState) → accepted_items (called (Some s) payload f) ≤ accepted_items f + 1
-called-adds status.Ok payload f = omega (arith, length-append f.items (one payload))
+called-adds status.Ok payload f = omega (arith, length-append f.items (singleton payload))
 called-adds status.Closing payload f = omega arith
 called-adds _ payload f = omega arith
 
@@ -176,8 +176,8 @@ case-within n h x told _ w (creates_function f entry maximum count finalizer con
     record {
       issued = let le = w.issued in omega (arith, le);
       numbered = let le = w.numbered in omega (arith, le);
-      functions = let le = w.functions in omega (arith, le, length-append h.functions (one made));
-      items = All-append (λ (f : FunctionState). accepted_items f ≤ n + 1) h.functions (one made) (more-few n (n + 1) (omega arith) h.functions w.items)
+      functions = let le = w.functions in omega (arith, le, length-append h.functions (singleton made));
+      items = All-append (λ (f : FunctionState). accepted_items f ≤ n + 1) h.functions (singleton made) (more-few n (n + 1) (omega arith) h.functions w.items)
           (All-cons (λ (f : FunctionState). accepted_items f ≤ n + 1) made [] (omega arith) (All-nil (λ (f : FunctionState). accepted_items f ≤ n + 1)));
     }
 case-within n h x told _ w (alters c k f change is there how) = changed-within n f.id h change (λ g. alters-adds f g c change how) w

@@ -15,7 +15,7 @@ use Rattle.napi_types.specs.declared.entry.TsfnState.TheVariants.{Open, Closing,
 use Rattle.napi_types.specs.declared.status.Status.{Status}
 use Rattle.napi_types.specs.declared.status.Status.TheVariants as status
 use Rattle.napi_types.specs.plain.CallFacts.{finalizer_places}
-use Rattle.napi_types.specs.plain.Lists.{found, head, tail, one}
+use Rattle.napi_types.specs.plain.Lists.{found, head, tail, singleton}
 use Rattle.napi_types.specs.plain.Room.{need}
 use Rattle.napi_types.specs.parts.Functions.{FunctionState, with_item_taken, is_open, is_full_queue, full_status, call_status, called, acquire_status, acquired, release_status, closed_state, closed, released, first_taken, finished, done}
 use Rattle.napi_types.specs.hub.HistoryRoom.{state_places, function_places}
@@ -47,7 +47,7 @@ fewer-sound drained early k (f ∷ fs) implies sound =
 
 -- one more, which has the next number
 pub more-sound : (drained : Bool) (k : ℕ) (fs : List FunctionState) (f : FunctionState) → f.id ≡ k + length fs → IsSound drained f → AreSoundFrom drained k fs
-    → AreSoundFrom drained k (fs ++ one f)
+    → AreSoundFrom drained k (fs ++ singleton f)
 more-sound drained k [] f id here sound = (first k id, here, tt)
   where
     first : (k : ℕ) → f.id ≡ k + 0 → f.id ≡ k
@@ -147,7 +147,7 @@ called-grows : (drained : Bool) (f : FunctionState) (payload : ℕ) (s : Status)
 called-grows drained f payload status.Ok opened = record {
   id = refl;
   sound = λ s. record { settled = λ over. absurd (over-open f.state (opened refl) over); shut = s.shut };
-  room = item-more (state_places f.finalizer f.state) (length f.items) (length (f.items ++ one payload)) (length-append f.items (one payload));
+  room = item-more (state_places f.finalizer f.state) (length f.items) (length (f.items ++ singleton payload)) (length-append f.items (singleton payload));
 }
 called-grows drained f payload status.Closing opened = record { id = refl; sound = λ s. record { settled = s.settled; shut = s.shut }; room = omega arith }
 called-grows drained f payload _ opened = record { id = refl; sound = λ s. s; room = omega arith }

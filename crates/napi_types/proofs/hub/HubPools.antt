@@ -7,7 +7,7 @@ use Rattle.std.proofs.lemmas.Bool.{eq-eqb, or_cases, or_left, or_right, or_parts
 use Rattle.std.proofs.lemmas.List.Elements.{All-head, All-tail, All-cons, All-nil, All-filter, All-map}
 use Rattle.std.proofs.lemmas.List.Folds.{list_any-append, list_any_none}
 use Rattle.napi_types.specs.declared.call.JobSpec.{JobSpec}
-use Rattle.napi_types.specs.plain.Lists.{found, has, has_number, with_number, with_record, tail, one}
+use Rattle.napi_types.specs.plain.Lists.{found, has, has_number, with_number, with_record, tail, singleton}
 use Rattle.napi_types.specs.parts.Pool.{WorkPool, work_numbered, standing_at, work_state, work_refusal, number_of_work, executed_by, with_work, without_work, new_number, with_queued, cancelled_at, with_cancelled, started_from, with_started, finished_at, with_finished, with_completed, drained}
 use Rattle.napi_types.specs.parts.Works.{Work, Created, Queued, Running, Finished, Completed, Execution, Outcome, is_created, is_queued, is_deletable, is_this_number, has_work_number, cancelled_outcome}
 use Rattle.napi_types.proofs.plain.Found.{IsRising, same-tells, apart-above, same-self, found-number, has-found, rising-filter, rising-with_record, rising-changed, has-with_number}
@@ -124,9 +124,10 @@ or_false true h = refl
 or_false false h = h
 
 -- one more that is finished
-last-finished : (os : List Outcome) (o : Outcome) (n : ℕ) → has (λ (x : Outcome). x.work) n (os ++ one o) ≡ true → (has (λ (x : Outcome). x.work) n os ≡ true) ⊎ (o.work ≡ n)
+last-finished : (os : List Outcome) (o : Outcome) (n : ℕ) → has (λ (x : Outcome). x.work) n (os ++ singleton o) ≡ true
+    → (has (λ (x : Outcome). x.work) n os ≡ true) ⊎ (o.work ≡ n)
 last-finished os o n is =
-    elim (or_cases (has (λ (x : Outcome). x.work) n os) ((o.work == n) || false) (sym (list_any-append (λ (x : Outcome). x.work == n) os (one o)) ∙ is)) [
+    elim (or_cases (has (λ (x : Outcome). x.work) n os) ((o.work == n) || false) (sym (list_any-append (λ (x : Outcome). x.work == n) os (singleton o)) ∙ is)) [
       | inl before ↦ inl before
       | inr last ↦ inr (same-tells o.work n (or_false (o.work == n) last))
     ]
@@ -214,7 +215,7 @@ cancelled-sound late p id none s =
     let k : WorkWaits p w.work = queued-waits p w.work w.state in
     let number : number_of_work p id ≡ Some k.number = ap (λ o. option_and_then (λ (v : Work). v.number) o) w.there ∙ k.is in
     subst (λ o. PoolSound late (cancelled_at o p)) (sym number)
-    (kept-sound late late p (filter (λ m. not (m == k.number)) p.queued) p.executions (p.finished ++ one (cancelled_outcome k.number)) p.closing
+    (kept-sound late late p (filter (λ m. not (m == k.number)) p.queued) p.executions (p.finished ++ singleton (cancelled_outcome k.number)) p.closing
     (λ l. ap (λ ns. filter (λ m. not (m == k.number)) ns) (s.none l)) (stood k.number k.waits) s.executes s)
   where
     stood : (k : ℕ) → has_number k p.queued ≡ true → WorksStandIn p (cancelled_at (Some k) p)
@@ -244,7 +245,7 @@ created-none p w is = by w.number refl is
 queued-standing : (p : WorkPool) (id n : ℕ) (P : Type 0) → (stands p n ≡ true → P) → (new_number p ≡ n → P) → stands (with_queued id p) n ≡ true → P
 queued-standing p id n P old new =
     by-standing (with_queued id p) n P
-    (λ h. elim (or_cases (has_number n p.queued) ((new_number p == n) || false) (sym (list_any-append (λ m. m == n) p.queued (one (new_number p))) ∙ h)) [
+    (λ h. elim (or_cases (has_number n p.queued) ((new_number p == n) || false) (sym (list_any-append (λ m. m == n) p.queued (singleton (new_number p))) ∙ h)) [
       | inl before ↦ old (waits-stands p n before)
       | inr last ↦ new (same-tells (new_number p) n (or_false (new_number p == n) last))
     ])

@@ -16,7 +16,7 @@ use Rattle.napi_types.specs.declared.entry.What.TheVariants as what
 use Rattle.napi_types.specs.declared.status.Status.{Status}
 use Rattle.napi_types.specs.declared.status.Status.TheVariants as status
 use Rattle.napi_types.specs.plain.CallFacts.{finalizer_places}
-use Rattle.napi_types.specs.plain.Lists.{found, has, has_number, with_number, with_record, head, tail, one, unless}
+use Rattle.napi_types.specs.plain.Lists.{found, has, has_number, with_number, with_record, head, tail, singleton, unless}
 use Rattle.napi_types.specs.plain.Room.{one_if, need}
 use Rattle.napi_types.specs.parts.Functions.{FunctionState, new_function, called, closed, finished}
 use Rattle.napi_types.specs.parts.Pool.{WorkPool, work_at, work_numbered, number_of_work, executed_by, standing_at, work_state, work_refusal, state_refusal, with_work, without_work, with_queued, cancelled_at, with_cancelled, with_started, started_from, with_finished, finished_at, with_completed, first_completion, completion_info, drained}
@@ -126,7 +126,8 @@ cancels-fits p id none =
     let number : number_of_work p id ≡ Some k.number = ap (λ o. option_and_then (λ (v : Work). v.number) o) w.there ∙ k.is in
     subst (λ o. work_places (cancelled_at o p) + 1 ≤ work_places p + 1) (sym number)
     (cancelled-fits (length p.queued) (length p.executions) (length p.finished) (length (filter (λ m. not (m == k.number)) p.queued))
-    (length (p.finished ++ one (cancelled_outcome k.number))) (has-fewer (λ m. m) k.number p.queued k.waits) (length-append p.finished (one (cancelled_outcome k.number))))
+    (length (p.finished ++ singleton (cancelled_outcome k.number))) (has-fewer (λ m. m) k.number p.queued k.waits)
+    (length-append p.finished (singleton (cancelled_outcome k.number))))
 
 queued-fits : (q e f q' : ℕ) → q' ≡ q + 1 → 4 * q' + 3 * e + 2 * f + 1 ≤ 4 * q + 3 * e + 2 * f + 5
 queued-fits q e f q' more = omega (arith, more)
@@ -156,7 +157,8 @@ finishes-fits : (p : WorkPool) (w n : ℕ) → executed_by p w ≡ Some n → wo
 finishes-fits p w n runs =
     subst (λ o. work_places (finished_at w o p) + 1 ≤ work_places p + 0) (sym runs)
     (finished-fits (length p.queued) (length p.executions) (length p.finished) (length (filter (λ (x : Execution). not (x.worker == w)) p.executions))
-    (length (finished_at w (Some n) p).finished) (has-fewer (λ (x : Execution). x.worker) w p.executions (executes-there p w n runs)) (length-append p.finished (one _)))
+    (length (finished_at w (Some n) p).finished) (has-fewer (λ (x : Execution). x.worker) w p.executions (executes-there p w n runs))
+    (length-append p.finished (singleton _)))
 
 -- the completion that begins is that of the work that finished first
 pub record Completes (p : WorkPool) (d : DueInfo) : Type 0 where
@@ -337,8 +339,9 @@ end-room h d stands =
     by x o one = omega (arith, one)
 
 -- one function more
-creates-room : (h : Hub) (f : FunctionState) (k : ℕ) → function_places f + 1 ≤ k → reserved_history (record h { functions = h.functions ++ one f }) + 1 ≤ reserved_history h + k
-creates-room h f k fits = in-functions-room h (h.functions ++ one f) 1 k (omega (arith, fits, sum_by_push function_places h.functions f))
+creates-room : (h : Hub) (f : FunctionState) (k : ℕ) → function_places f + 1 ≤ k
+    → reserved_history (record h { functions = h.functions ++ singleton f }) + 1 ≤ reserved_history h + k
+creates-room h f k fits = in-functions-room h (h.functions ++ singleton f) 1 k (omega (arith, fits, sum_by_push function_places h.functions f))
 
 -- EACH STEP
 -- the places that an entry takes beside those that are reserved: a call those that it needs
@@ -363,7 +366,8 @@ hub-room late h x told _ sound (deletes_work w is none) = has-places _ _ x _ is 
 hub-room late h x told _ sound (cancels_work w is none) = has-places _ _ x _ is (in-pool-room h (with_cancelled w.0) 1 1 (cancels-fits h.pool w.0 none))
 hub-room late h x told _ sound (queues_work w is none early) =
     has-places _ _ x _ is (in-pool-room h (with_queued w.0) 1 5
-    (queued-fits (length h.pool.queued) (length h.pool.executions) (length h.pool.finished) (length (with_queued w.0 h.pool).queued) (length-append h.pool.queued (one _))))
+    (queued-fits (length h.pool.queued) (length h.pool.executions) (length h.pool.finished) (length (with_queued w.0 h.pool).queued)
+    (length-append h.pool.queued (singleton _))))
 hub-room late h x told _ sound (creates_function f entry maximum count finalizer context addon target is early) = has-places _ _ x _ is (creates-room h (new_function (new_function_number h) addon target maximum count finalizer context) (3 + finalizer_places finalizer) (omega arith))
 hub-room late h x told _ sound (alters c k f change is there how) =
     has-places _ _ x _ is (in-function-room late h f change 1 (need c) (found-among late 1 k h.functions f sound there) (alters-grows late f c change how).room)

@@ -4,7 +4,7 @@ use Rattle.std.proofs.lemmas.List.Elements.{All-head, All-tail}
 use Rattle.napi_types.specs.declared.entry.Entry.{Entry}
 use Rattle.napi_types.specs.plain.Entries.{is_environment}
 use Rattle.napi_types.specs.plain.Guards.{is_growing}
-use Rattle.napi_types.specs.plain.Lists.{one}
+use Rattle.napi_types.specs.plain.Lists.{singleton}
 use Rattle.napi_types.specs.plain.Room.{Room, need, first_places}
 use Rattle.napi_types.specs.hub.HistoryLaws.{OthersOccupyNoLess, CallsStayPressed}
 use Rattle.napi_types.specs.hub.HistoryRoom.{history_room, reserved_history}
@@ -13,8 +13,8 @@ use Rattle.napi_types.specs.hub.Replays.{HubReplays}
 use Rattle.napi_types.proofs.hub.GrowingHistories.{leads-more}
 use Rattle.napi_types.proofs.hub.OthersLower.{others-lower-nothing}
 
-length-one : (history : List Entry) (x : Entry) → length (history ++ one x) ≡ length history + 1
-length-one history x = length-append history (one x)
+length-one : (history : List Entry) (x : Entry) → length (history ++ singleton x) ≡ length history + 1
+length-one history x = length-append history (singleton x)
 
 pub others-occupy-no-less : OthersOccupyNoLess
 others-occupy-no-less limit threads workers history [] h led others replays = omega arith
@@ -22,10 +22,12 @@ others-occupy-no-less limit threads workers history (x ∷ xs) h led others repl
     let other : is_environment x.actor ≡ false = All-head (λ (y : Entry). is_environment y.actor ≡ false) x xs others in
     let low : reserved_history h ≤ reserved_history (hub_step h x).after + 1 = others-lower-nothing limit threads workers history h x led other replays.0 in
     let more : _ =
-    others-occupy-no-less limit threads workers (history ++ one x) xs (hub_step h x).after (leads-more limit threads workers history h x led replays.0 replays.1)
+    others-occupy-no-less limit threads workers (history ++ singleton x) xs (hub_step h x).after
+    (leads-more limit threads workers history h x led replays.0 replays.1)
     (All-tail (λ (y : Entry). is_environment y.actor ≡ false) x xs others)
     (subst (λ n. HubReplays limit (hub_step h x).after n xs) (sym (length-one history x)) replays.2) in
-    by (length history) (length (history ++ one x)) (length xs) (reserved_history h) (reserved_history (hub_step h x).after) (reserved_history (hub_along (hub_step h x).after xs)) (length-one history x) low more
+    by (length history) (length (history ++ singleton x)) (length xs) (reserved_history h) (reserved_history (hub_step h x).after)
+    (reserved_history (hub_along (hub_step h x).after xs)) (length-one history x) low more
   where
     by : (n k l r s t : ℕ) → k ≡ n + 1 → r ≤ s + 1 → k + s ≤ k + l + t → n + r ≤ n + suc l + t
     by n k l r s t same low more = omega (arith, same, low, more)

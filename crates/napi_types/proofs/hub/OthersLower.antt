@@ -17,7 +17,7 @@ use Rattle.napi_types.specs.declared.entry.What.TheVariants as what
 use Rattle.napi_types.specs.declared.status.Status.{Status}
 use Rattle.napi_types.specs.declared.status.Status.TheVariants as status
 use Rattle.napi_types.specs.plain.Entries.{is_environment}
-use Rattle.napi_types.specs.plain.Lists.{with_number, with_record, one}
+use Rattle.napi_types.specs.plain.Lists.{with_number, with_record, singleton}
 use Rattle.napi_types.specs.plain.Room.{one_if}
 use Rattle.napi_types.specs.parts.Functions.{FunctionState, called, acquire_status, acquired, release_status, closed_state, released}
 use Rattle.napi_types.specs.parts.Pool.{WorkPool, executed_by, with_started, started_from, with_finished, finished_at}
@@ -109,7 +109,7 @@ item-lowers-nothing p n m e = omega (arith, e)
 
 called-lowers-nothing : (f : FunctionState) (payload : ℕ) (s : Status) → function_places f ≤ function_places (called (Some s) payload f) + 1
 called-lowers-nothing f payload status.Ok =
-    item-lowers-nothing (state_places f.finalizer f.state) (length f.items) (length (f.items ++ one payload)) (length-append f.items (one payload))
+    item-lowers-nothing (state_places f.finalizer f.state) (length f.items) (length (f.items ++ singleton payload)) (length-append f.items (singleton payload))
 called-lowers-nothing f payload status.Closing = omega arith
 called-lowers-nothing f payload _ = omega arith
 
@@ -159,7 +159,7 @@ finishes-lowers-nothing h w n holds runs =
     subst (λ o. work_places h.pool ≤ work_places (finished_at w o h.pool) + 1) (sym runs)
     (finished-lowers-nothing (length h.pool.queued) (length h.pool.executions) (length h.pool.finished) (length (finished_at w (Some n) h.pool).executions)
     (length (finished_at w (Some n) h.pool).finished) (loses-one (λ (x : Execution). x.worker) w h.pool.executions holds.pool.executes)
-    (length-append h.pool.finished (one _)))
+    (length-append h.pool.finished (singleton _)))
 
 -- AN ACTOR ENDS
 thread-lowers-nothing : (h : Hub) (t : ℕ) → LowersNothing h (record h { ended_threads = with_number t h.ended_threads })

@@ -4,7 +4,7 @@ use Rattle.std.specs.List.{All, count_by}
 use Rattle.std.proofs.lemmas.Bool.{or_parts}
 use Rattle.std.proofs.lemmas.List.Elements.{All-head, All-tail}
 use Rattle.std.proofs.lemmas.List.Sums.{sum_by-cons, sum_by-append}
-use Rattle.napi_types.specs.plain.Lists.{found, has, has_number, with_record, one}
+use Rattle.napi_types.specs.plain.Lists.{found, has, has_number, with_record, singleton}
 use Rattle.napi_types.specs.plain.Room.{one_if}
 use Rattle.napi_types.proofs.plain.Found.{IsRising, same-tells, apart-above, turned}
 use Rattle.napi_types.proofs.plain.Maps.{one-below}
@@ -23,7 +23,7 @@ tally-cons p x xs = sum_by-cons (λ y. cond (p y) 1 0) x xs ∙ ap (λ n. n + co
 pub tally-append : {A : Type 0} (p : A → Bool) (xs ys : List A) → count_by p (xs ++ ys) ≡ count_by p xs + count_by p ys
 tally-append p xs ys = sum_by-append (λ y. cond (p y) 1 0) xs ys
 
-pub tally-one : {A : Type 0} (p : A → Bool) (x : A) → count_by p (one x) ≡ one_if (p x)
+pub tally-one : {A : Type 0} (p : A → Bool) (x : A) → count_by p (singleton x) ≡ one_if (p x)
 tally-one p x = tally-cons p x [] ∙ plus (one_if (p x))
   where
     plus : (n : ℕ) → n + 0 ≡ n

@@ -15,7 +15,7 @@ use Rattle.napi_types.specs.declared.entry.What.TheVariants as what
 use Rattle.napi_types.specs.declared.status.Status.{Status}
 use Rattle.napi_types.specs.declared.status.Status.TheVariants as status
 use Rattle.napi_types.specs.plain.Guards.{is_shared}
-use Rattle.napi_types.specs.plain.Lists.{one}
+use Rattle.napi_types.specs.plain.Lists.{singleton}
 use Rattle.napi_types.specs.plain.Replies.{plain}
 use Rattle.napi_types.specs.parts.Bodies.{function_addon, function_entry}
 use Rattle.napi_types.specs.parts.Frames.{caller_of, frame_of_duty, asks_made}
@@ -82,7 +82,7 @@ SharedRefusals = (e : Environment) (c : Call) → is_shared c ≡ true
 -- a new thread-safe function keeps the value of its function alive, where it has one
 abbrev pub with_root : Call → Out → Environment → Environment
 with_root (call.CreateThreadsafeFunction (Some f) _ _ _ _ _) (out.Function n) e =
-    record e { tsfn_roots = e.tsfn_roots ++ one (record { function = n.0; value = handle_value e.heap f.0 }) }
+    record e { tsfn_roots = e.tsfn_roots ++ singleton (record { function = n.0; value = handle_value e.heap f.0 }) }
 with_root _ _ e = e
 
 -- until it finishes

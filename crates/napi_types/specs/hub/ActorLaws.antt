@@ -3,7 +3,7 @@ use Rattle.std.specs.Prelude.{◌≡◌, ◌<◌, ℕ, ◌+◌, true, false, con
 use Rattle.std.specs.List.{All}
 use Rattle.napi_types.specs.declared.call.Call.{Call}
 use Rattle.napi_types.specs.declared.entry.Entry.{Entry}
-use Rattle.napi_types.specs.plain.Lists.{one}
+use Rattle.napi_types.specs.plain.Lists.{singleton}
 use Rattle.napi_types.specs.parts.Pool.{executed_by}
 use Rattle.napi_types.specs.hub.Actors.{is_thread, IsNextOfThread, left_after, KeepsScriptFrom, left_along, is_worker, WorkerState, Free, Working, Over, worker_after, worker_along}
 use Rattle.napi_types.specs.hub.HistoryLaws.{LeadsTo}
@@ -28,7 +28,7 @@ abbrev pub ThreadsGoOn : Type 0
 ThreadsGoOn = (limit threads workers t made : ℕ) (calls : List Call) (left : Option (List Call)) (history : List Entry) (x : Entry)
     → ThreadStands limit threads workers t calls history made left → is_thread t x.actor ≡ true
     → IsNextOfThread (history_room (hub_along (new_hub threads workers) history) (length history) limit) made left x x.what
-    → ThreadStands limit threads workers t calls (history ++ one x) (made + 1) (left_after left x.what)
+    → ThreadStands limit threads workers t calls (history ++ singleton x) (made + 1) (left_after left x.what)
 
 -- entries of other actors leave where it stands
 abbrev pub ThreadsStandAsOthersGoOn : Type 0
@@ -40,7 +40,7 @@ ThreadsStandAsOthersGoOn = (limit threads workers t made : ℕ) (calls : List Ca
 -- a worker makes its next entry, a start, a finish or its end: where it stands then follows from where it stood
 abbrev pub WorkersGoOn : Type 0
 WorkersGoOn = (w : ℕ) (s : WorkerState) (history : List Entry) (x : Entry) → worker_along w (Some Free) history ≡ Some s → is_worker w x.actor ≡ true
-    → worker_along w (Some Free) (history ++ one x) ≡ worker_after s x.what
+    → worker_along w (Some Free) (history ++ singleton x) ≡ worker_after s x.what
 
 -- entries of other actors leave where it stands
 abbrev pub WorkersStandAsOthersGoOn : Type 0

@@ -12,7 +12,7 @@ use Rattle.napi_types.specs.declared.entry.Out.TheVariants as out
 use Rattle.napi_types.specs.declared.entry.Target.{Target}
 use Rattle.napi_types.specs.declared.status.Status.{Status}
 use Rattle.napi_types.specs.declared.status.Status.TheVariants as status
-use Rattle.napi_types.specs.plain.Lists.{found, one}
+use Rattle.napi_types.specs.plain.Lists.{found, singleton}
 use Rattle.napi_types.specs.plain.Replies.{Answer, plain, accepts, refuses}
 use Rattle.napi_types.specs.parts.Functions.{FunctionState, new_function, call_status, called, accepted_items, acquire_status, acquired, release_status, released, with_referenced}
 use Rattle.napi_types.specs.parts.Pool.{work_refusal, with_work, without_work, with_queued, with_cancelled, new_number}
@@ -74,7 +74,7 @@ no_target = record { addon = 0; entry = 0; torn_runs = false }
 -- one function more, created by this addon
 abbrev pub with_function : ℕ → Target → ℕ → ℕ → Option ℕ → ℕ → Hub → Hub
 with_function addon target maximum count finalizer context h =
-    record h { functions = h.functions ++ one (new_function (new_function_number h) addon target maximum count finalizer context) }
+    record h { functions = h.functions ++ singleton (new_function (new_function_number h) addon target maximum count finalizer context) }
 
 abbrev pub creating : Hub → Given → ℕ → ℕ → Option ℕ → ℕ → Answer Hub
 creating h g maximum count finalizer context =

@@ -15,7 +15,7 @@ use Rattle.napi_types.specs.declared.entry.TsfnState.TheVariants.{Open, Closing,
 use Rattle.napi_types.specs.declared.status.Status.{Status}
 use Rattle.napi_types.specs.declared.status.Status.TheVariants as status
 use Rattle.napi_types.specs.plain.Entries.{is_environment}
-use Rattle.napi_types.specs.plain.Lists.{head, tail, one, when}
+use Rattle.napi_types.specs.plain.Lists.{head, tail, singleton, when}
 
 pub record FunctionState : Type 0 where
   -- its number, the addon that created it, and where its items are delivered
@@ -93,7 +93,7 @@ call_status who m f =
 
 -- what it leaves: an accepted item waits behind all others; a call on a function that is not open takes one off the count
 abbrev pub called : Option Status → ℕ → FunctionState → FunctionState
-called (Some status.Ok) payload f = record f { items = f.items ++ one payload }
+called (Some status.Ok) payload f = record f { items = f.items ++ singleton payload }
 called (Some status.Closing) payload f = record f { count = f.count - 1 }
 called _ payload f = f
 

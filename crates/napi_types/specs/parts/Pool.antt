@@ -7,7 +7,7 @@ use Rattle.napi_types.specs.declared.entry.Cause.TheVariants as cause
 use Rattle.napi_types.specs.declared.entry.Duty.TheVariants as duty
 use Rattle.napi_types.specs.declared.status.Status.{Status}
 use Rattle.napi_types.specs.declared.status.Status.TheVariants as status
-use Rattle.napi_types.specs.plain.Lists.{found, has, has_number, with_record, with_number, one, head, tail, unless}
+use Rattle.napi_types.specs.plain.Lists.{found, has, has_number, with_record, with_number, singleton, head, tail, unless}
 use Rattle.napi_types.specs.plain.Numbers.{status_number}
 use Rattle.napi_types.specs.parts.Jobs.{job_value}
 use Rattle.napi_types.specs.parts.Works.{Work, WorkState, Created, Queued, Running, Finished, Completed, Execution, Outcome, cancelled_outcome, has_work_number}
@@ -87,13 +87,13 @@ abbrev pub with_queued : ℕ → WorkPool → WorkPool
 with_queued id p = record p {
   works = map (λ (w : Work). cond (w.id == id) (record w { number = Some (new_number p) }) w) p.works;
   numbered = new_number p;
-  queued = p.queued ++ one (new_number p);
+  queued = p.queued ++ singleton (new_number p);
 }
 
 -- the work of this number no longer waits: it is the last of the finished ones, and will never start
 abbrev pub cancelled_at : Option ℕ → WorkPool → WorkPool
 cancelled_at None p = p
-cancelled_at (Some n) p = record p { queued = filter (λ m. not (m == n)) p.queued; finished = p.finished ++ one (cancelled_outcome n) }
+cancelled_at (Some n) p = record p { queued = filter (λ m. not (m == n)) p.queued; finished = p.finished ++ singleton (cancelled_outcome n) }
 
 -- the same of the work of this id
 abbrev pub with_cancelled : ℕ → WorkPool → WorkPool
@@ -121,7 +121,7 @@ abbrev pub finished_at : ℕ → Option ℕ → WorkPool → WorkPool
 finished_at worker None p = p
 finished_at worker (Some n) p = record p {
   executions = filter (λ x. not (x.worker == worker)) p.executions;
-  finished = p.finished ++ one (record { work = n; status = status.Ok; value = value_of_work p n });
+  finished = p.finished ++ singleton (record { work = n; status = status.Ok; value = value_of_work p n });
 }
 
 -- a worker finishes the work that it executes

@@ -1,13 +1,13 @@
 -- What a call makes of the scopes of a frame.
 use Rattle.std.specs.Prelude.{ℕ, ◌==◌, true, false, cond, List, [], ◌∷◌, ◌++◌}
 use Rattle.napi_types.specs.declared.ids.ScopeKind.{ScopeKind}
-use Rattle.napi_types.specs.plain.Lists.{tail, one}
+use Rattle.napi_types.specs.plain.Lists.{tail, singleton}
 use Rattle.napi_types.specs.parts.Scopes.{OpenHandle, Scope, FrameScopes}
 
 -- what the frame's own scope and the scopes opened in it become with one handle more, in the innermost of them, or else in the frame's own
 abbrev pub hold_at : OpenHandle → List OpenHandle → List Scope → FrameScopes
-hold_at p own [] = record { own = own ++ one p; opened = [] }
-hold_at p own (s ∷ ss) = record { own = own; opened = record s { held = s.held ++ one p } ∷ ss }
+hold_at p own [] = record { own = own ++ singleton p; opened = [] }
+hold_at p own (s ∷ ss) = record { own = own; opened = record s { held = s.held ++ singleton p } ∷ ss }
 
 -- the innermost scope of a frame holds one handle more
 abbrev pub hold_in : OpenHandle → FrameScopes → FrameScopes

@@ -9,7 +9,7 @@ use Rattle.napi_types.specs.declared.call.Facts.{Facts}
 use Rattle.napi_types.specs.declared.ids.HandleId.{HandleId}
 use Rattle.napi_types.specs.declared.ids.TextNo.{TextNo}
 use Rattle.napi_types.specs.plain.Arguments.{argument_handles}
-use Rattle.napi_types.specs.plain.Lists.{one}
+use Rattle.napi_types.specs.plain.Lists.{singleton}
 
 -- the call's group; whether it is guarded, whether it registers something, and whether it takes memory beside that of its places; how many places it needs; and
 -- the handles, the texts and the references that it names
@@ -31,12 +31,12 @@ in_group g =
 -- the handle of an argument that may be left out
 abbrev pub handle_if : Option HandleId → List ℕ
 handle_if None = []
-handle_if (Some h) = one h.0
+handle_if (Some h) = singleton h.0
 
 -- the text of an argument that may be left out
 abbrev pub text_if : Option TextNo → List ℕ
 text_if None = []
-text_if (Some t) = one t.0
+text_if (Some t) = singleton t.0
 
 -- the places of a duty's frame, its begin and its end
 abbrev pub duty_places : ℕ
@@ -55,53 +55,54 @@ facts_of call.GetGlobal = record (in_group OnValues) { grows = true }
 facts_of (call.GetBoolean _) = record (in_group OnValues) { grows = true }
 facts_of (call.CreateInt64 _) = record (in_group OnValues) { grows = true }
 facts_of (call.CreateBigintInt64 _) = record (in_group OnValues) { grows = true }
-facts_of (call.CreateStringUtf8 t) = record (in_group OnValues) { grows = true; texts = one t.0 }
+facts_of (call.CreateStringUtf8 t) = record (in_group OnValues) { grows = true; texts = singleton t.0 }
 facts_of (call.CreateSymbol h) = record (in_group OnValues) { grows = true; handles = handle_if h }
 facts_of call.CreateObject = record (in_group OnValues) { grows = true }
 facts_of call.CreateArray = record (in_group OnValues) { grows = true }
 facts_of (call.CreateFunction _ _) = record (in_group OnFunctions) { guarded = true; grows = true }
 facts_of (call.CreateExternal _ finalizer _) =
     record (in_group OnExternals) { registers = is_some finalizer; grows = true; need = 1 + finalizer_places finalizer }
-facts_of (call.CreateError code message) = record (in_group OnValues) { grows = true; handles = handle_if code ++ one message.0 }
-facts_of (call.Typeof h) = record (in_group OnValues) { handles = one h.0 }
-facts_of (call.IsArray h) = record (in_group OnValues) { handles = one h.0 }
-facts_of (call.IsError h) = record (in_group OnValues) { handles = one h.0 }
-facts_of (call.GetValueInt64 h) = record (in_group OnValues) { handles = one h.0 }
-facts_of (call.GetValueBigintInt64 h) = record (in_group OnValues) { handles = one h.0 }
-facts_of (call.GetValueBool h) = record (in_group OnValues) { handles = one h.0 }
-facts_of (call.GetValueStringUtf8 h) = record (in_group OnValues) { handles = one h.0 }
-facts_of (call.GetValueExternal h) = record (in_group OnValues) { handles = one h.0 }
-facts_of (call.GetArrayLength h) = record (in_group OnValues) { handles = one h.0 }
-facts_of (call.StrictEquals g h) = record (in_group OnValues) { guarded = true; handles = g.0 ∷ one h.0 }
-facts_of (call.SetNamedProperty h name v) = record (in_group OnProperties) { guarded = true; grows = true; handles = h.0 ∷ one v.0; texts = one name.0 }
-facts_of (call.GetNamedProperty h name) = record (in_group OnProperties) { guarded = true; grows = true; handles = one h.0; texts = one name.0 }
-facts_of (call.HasNamedProperty h name) = record (in_group OnProperties) { guarded = true; handles = one h.0; texts = one name.0 }
-facts_of (call.DeleteProperty h name) = record (in_group OnProperties) { guarded = true; handles = one h.0; texts = one name.0 }
-facts_of (call.GetPropertyNames h) = record (in_group OnProperties) { guarded = true; grows = true; handles = one h.0 }
-facts_of (call.SetElement h _ v) = record (in_group OnProperties) { guarded = true; grows = true; handles = h.0 ∷ one v.0 }
-facts_of (call.GetElement h _) = record (in_group OnProperties) { guarded = true; grows = true; handles = one h.0 }
-facts_of (call.HasElement h _) = record (in_group OnProperties) { guarded = true; handles = one h.0 }
+facts_of (call.CreateError code message) = record (in_group OnValues) { grows = true; handles = handle_if code ++ singleton message.0 }
+facts_of (call.Typeof h) = record (in_group OnValues) { handles = singleton h.0 }
+facts_of (call.IsArray h) = record (in_group OnValues) { handles = singleton h.0 }
+facts_of (call.IsError h) = record (in_group OnValues) { handles = singleton h.0 }
+facts_of (call.GetValueInt64 h) = record (in_group OnValues) { handles = singleton h.0 }
+facts_of (call.GetValueBigintInt64 h) = record (in_group OnValues) { handles = singleton h.0 }
+facts_of (call.GetValueBool h) = record (in_group OnValues) { handles = singleton h.0 }
+facts_of (call.GetValueStringUtf8 h) = record (in_group OnValues) { handles = singleton h.0 }
+facts_of (call.GetValueExternal h) = record (in_group OnValues) { handles = singleton h.0 }
+facts_of (call.GetArrayLength h) = record (in_group OnValues) { handles = singleton h.0 }
+facts_of (call.StrictEquals g h) = record (in_group OnValues) { guarded = true; handles = g.0 ∷ singleton h.0 }
+facts_of (call.SetNamedProperty h name v) =
+    record (in_group OnProperties) { guarded = true; grows = true; handles = h.0 ∷ singleton v.0; texts = singleton name.0 }
+facts_of (call.GetNamedProperty h name) = record (in_group OnProperties) { guarded = true; grows = true; handles = singleton h.0; texts = singleton name.0 }
+facts_of (call.HasNamedProperty h name) = record (in_group OnProperties) { guarded = true; handles = singleton h.0; texts = singleton name.0 }
+facts_of (call.DeleteProperty h name) = record (in_group OnProperties) { guarded = true; handles = singleton h.0; texts = singleton name.0 }
+facts_of (call.GetPropertyNames h) = record (in_group OnProperties) { guarded = true; grows = true; handles = singleton h.0 }
+facts_of (call.SetElement h _ v) = record (in_group OnProperties) { guarded = true; grows = true; handles = h.0 ∷ singleton v.0 }
+facts_of (call.GetElement h _) = record (in_group OnProperties) { guarded = true; grows = true; handles = singleton h.0 }
+facts_of (call.HasElement h _) = record (in_group OnProperties) { guarded = true; handles = singleton h.0 }
 facts_of call.OpenHandleScope = record (in_group OnScopes) { grows = true }
 facts_of call.OpenEscapableHandleScope = record (in_group OnScopes) { grows = true }
 facts_of (call.CloseHandleScope _) = in_group OnScopes
 facts_of (call.CloseEscapableHandleScope _) = in_group OnScopes
-facts_of (call.EscapeHandle _ h) = record (in_group OnScopes) { handles = one h.0 }
-facts_of (call.CreateReference h _) = record (in_group OnReferences) { grows = true; handles = one h.0 }
-facts_of (call.DeleteReference r) = record (in_group OnReferences) { references = one r.0 }
-facts_of (call.ReferenceRef r) = record (in_group OnReferences) { references = one r.0 }
-facts_of (call.ReferenceUnref r) = record (in_group OnReferences) { references = one r.0 }
-facts_of (call.GetReferenceValue r) = record (in_group OnReferences) { grows = true; references = one r.0 }
+facts_of (call.EscapeHandle _ h) = record (in_group OnScopes) { handles = singleton h.0 }
+facts_of (call.CreateReference h _) = record (in_group OnReferences) { grows = true; handles = singleton h.0 }
+facts_of (call.DeleteReference r) = record (in_group OnReferences) { references = singleton r.0 }
+facts_of (call.ReferenceRef r) = record (in_group OnReferences) { references = singleton r.0 }
+facts_of (call.ReferenceUnref r) = record (in_group OnReferences) { references = singleton r.0 }
+facts_of (call.GetReferenceValue r) = record (in_group OnReferences) { grows = true; references = singleton r.0 }
 facts_of (call.Wrap h _ finalizer _ _) =
-    record (in_group OnWraps) { guarded = true; registers = is_some finalizer; grows = true; need = 1 + finalizer_places finalizer; handles = one h.0 }
-facts_of (call.Unwrap h) = record (in_group OnWraps) { guarded = true; handles = one h.0 }
-facts_of (call.RemoveWrap h) = record (in_group OnWraps) { guarded = true; handles = one h.0 }
-facts_of (call.TypeTagObject h _ _) = record (in_group OnWraps) { guarded = true; grows = true; handles = one h.0 }
-facts_of (call.CheckObjectTypeTag h _ _) = record (in_group OnWraps) { guarded = true; handles = one h.0 }
-facts_of (call.AddFinalizer h _ _ _ _) = record (in_group OnWraps) { registers = true; grows = true; need = 1 + duty_places; handles = one h.0 }
+    record (in_group OnWraps) { guarded = true; registers = is_some finalizer; grows = true; need = 1 + finalizer_places finalizer; handles = singleton h.0 }
+facts_of (call.Unwrap h) = record (in_group OnWraps) { guarded = true; handles = singleton h.0 }
+facts_of (call.RemoveWrap h) = record (in_group OnWraps) { guarded = true; handles = singleton h.0 }
+facts_of (call.TypeTagObject h _ _) = record (in_group OnWraps) { guarded = true; grows = true; handles = singleton h.0 }
+facts_of (call.CheckObjectTypeTag h _ _) = record (in_group OnWraps) { guarded = true; handles = singleton h.0 }
+facts_of (call.AddFinalizer h _ _ _ _) = record (in_group OnWraps) { registers = true; grows = true; need = 1 + duty_places; handles = singleton h.0 }
 facts_of (call.CallFunction receiver f args) =
     record (in_group OnEntering) { guarded = true; grows = true; need = 2; handles = handle_if receiver ++ f.0 ∷ argument_handles args }
-facts_of (call.Throw h) = record (in_group OnExceptions) { guarded = true; handles = one h.0 }
-facts_of (call.ThrowError code message) = record (in_group OnExceptions) { guarded = true; grows = true; texts = text_if code ++ one message.0 }
+facts_of (call.Throw h) = record (in_group OnExceptions) { guarded = true; handles = singleton h.0 }
+facts_of (call.ThrowError code message) = record (in_group OnExceptions) { guarded = true; grows = true; texts = text_if code ++ singleton message.0 }
 facts_of call.IsExceptionPending = in_group OnExceptions
 facts_of call.GetAndClearLastException = record (in_group OnExceptions) { grows = true }
 facts_of call.GetLastErrorInfo = in_group OnExceptions

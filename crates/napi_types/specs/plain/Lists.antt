@@ -1,5 +1,5 @@
--- Words on lists and options that the other definitions are told by. A finite map is a list of records, each found by its number. One that grows has its records
--- by rising number, so that maps with the same records are equal, whatever was added first.
+-- Words on lists and options that the other definitions are told by. A finite map is a list of records, each found by its number. One that grows has its
+-- records by rising number, so that maps with the same records are equal, whatever was added first.
 use Rattle.std.specs.Prelude.{◌≡◌, ℕ, ◌==◌, nat_lt, Bool, true, false, List, [], ◌∷◌, ◌++◌, filter, Option, Some, None, find}
 use Rattle.std.specs.List.{list_any, range_with_len}
 use Rattle.napi_types.specs.declared.status.Status.{Status}
@@ -38,8 +38,8 @@ abbrev pub up_to : ℕ → List ℕ
 up_to n = range_with_len 1 n
 
 -- the list of one element
-abbrev pub one : {A : Type 0} → A → List A
-one x = x ∷ []
+abbrev pub singleton : {A : Type 0} → A → List A
+singleton x = x ∷ []
 
 -- the first element, none of an empty list
 abbrev pub head : {A : Type 0} → List A → Option A

@@ -14,7 +14,7 @@ use Rattle.napi_types.specs.declared.entry.Out.TheVariants as out
 use Rattle.napi_types.specs.declared.entry.Reply.{Reply}
 use Rattle.napi_types.specs.declared.status.Status.{Status}
 use Rattle.napi_types.specs.declared.status.Status.TheVariants as status
-use Rattle.napi_types.specs.plain.Lists.{one}
+use Rattle.napi_types.specs.plain.Lists.{singleton}
 use Rattle.napi_types.specs.plain.Numbers.{kind_number}
 
 -- the number in a register, 0 past the last one
@@ -116,57 +116,57 @@ operation_ask (op.ThreadRelease f m) rs = ask.Do (call.ReleaseThreadsafeFunction
 
 -- the registers that keep an operation's result, in the order of its numbers
 abbrev pub result_registers : Op → List ℕ
-result_registers (op.GetUndefined w) = one w
-result_registers (op.GetNull w) = one w
-result_registers (op.GetGlobal w) = one w
-result_registers (op.GetBoolean _ w) = one w
-result_registers (op.CreateInt64 _ w) = one w
-result_registers (op.CreateBigintInt64 _ w) = one w
-result_registers (op.CreateStringUtf8 _ w) = one w
-result_registers (op.CreateSymbol _ w) = one w
-result_registers (op.CreateObject w) = one w
-result_registers (op.CreateArray w) = one w
-result_registers (op.CreateFunction _ _ w) = one w
-result_registers (op.CreateExternal _ _ _ w) = one w
-result_registers (op.CreateError _ _ w) = one w
-result_registers (op.Typeof _ w) = one w
-result_registers (op.IsArray _ w) = one w
-result_registers (op.IsError _ w) = one w
-result_registers (op.GetValueInt64 _ w) = one w
-result_registers (op.GetValueBigintInt64 _ w) = one w
-result_registers (op.GetValueBool _ w) = one w
-result_registers (op.GetValueStringUtf8 _ w) = one w
-result_registers (op.GetValueExternal _ w) = one w
-result_registers (op.GetArrayLength _ w) = one w
-result_registers (op.StrictEquals _ _ w) = one w
-result_registers (op.GetNamedProperty _ _ w) = one w
-result_registers (op.HasNamedProperty _ _ w) = one w
-result_registers (op.DeleteProperty _ _ w) = one w
-result_registers (op.GetPropertyNames _ w) = one w
-result_registers (op.GetElement _ _ w) = one w
-result_registers (op.HasElement _ _ w) = one w
-result_registers (op.OpenHandleScope w) = one w
-result_registers (op.OpenEscapableHandleScope w) = one w
-result_registers (op.EscapeHandle _ _ w) = one w
-result_registers (op.CreateReference _ _ w) = one w
-result_registers (op.ReferenceRef _ w) = one w
-result_registers (op.ReferenceUnref _ w) = one w
-result_registers (op.GetReferenceValue _ w) = one w
+result_registers (op.GetUndefined w) = singleton w
+result_registers (op.GetNull w) = singleton w
+result_registers (op.GetGlobal w) = singleton w
+result_registers (op.GetBoolean _ w) = singleton w
+result_registers (op.CreateInt64 _ w) = singleton w
+result_registers (op.CreateBigintInt64 _ w) = singleton w
+result_registers (op.CreateStringUtf8 _ w) = singleton w
+result_registers (op.CreateSymbol _ w) = singleton w
+result_registers (op.CreateObject w) = singleton w
+result_registers (op.CreateArray w) = singleton w
+result_registers (op.CreateFunction _ _ w) = singleton w
+result_registers (op.CreateExternal _ _ _ w) = singleton w
+result_registers (op.CreateError _ _ w) = singleton w
+result_registers (op.Typeof _ w) = singleton w
+result_registers (op.IsArray _ w) = singleton w
+result_registers (op.IsError _ w) = singleton w
+result_registers (op.GetValueInt64 _ w) = singleton w
+result_registers (op.GetValueBigintInt64 _ w) = singleton w
+result_registers (op.GetValueBool _ w) = singleton w
+result_registers (op.GetValueStringUtf8 _ w) = singleton w
+result_registers (op.GetValueExternal _ w) = singleton w
+result_registers (op.GetArrayLength _ w) = singleton w
+result_registers (op.StrictEquals _ _ w) = singleton w
+result_registers (op.GetNamedProperty _ _ w) = singleton w
+result_registers (op.HasNamedProperty _ _ w) = singleton w
+result_registers (op.DeleteProperty _ _ w) = singleton w
+result_registers (op.GetPropertyNames _ w) = singleton w
+result_registers (op.GetElement _ _ w) = singleton w
+result_registers (op.HasElement _ _ w) = singleton w
+result_registers (op.OpenHandleScope w) = singleton w
+result_registers (op.OpenEscapableHandleScope w) = singleton w
+result_registers (op.EscapeHandle _ _ w) = singleton w
+result_registers (op.CreateReference _ _ w) = singleton w
+result_registers (op.ReferenceRef _ w) = singleton w
+result_registers (op.ReferenceUnref _ w) = singleton w
+result_registers (op.GetReferenceValue _ w) = singleton w
 result_registers (op.Wrap _ _ _ _ w) = option_to_list w
-result_registers (op.Unwrap _ w) = one w
-result_registers (op.RemoveWrap _ w) = one w
-result_registers (op.CheckObjectTypeTag _ _ _ w) = one w
+result_registers (op.Unwrap _ w) = singleton w
+result_registers (op.RemoveWrap _ w) = singleton w
+result_registers (op.CheckObjectTypeTag _ _ _ w) = singleton w
 result_registers (op.AddFinalizer _ _ _ _ w) = option_to_list w
-result_registers (op.CallFunction _ _ _ w) = one w
-result_registers (op.IsExceptionPending w) = one w
-result_registers (op.GetAndClearLastException w) = one w
-result_registers (op.GetLastErrorInfo w) = one w
-result_registers (op.GetInstanceData w) = one w
-result_registers (op.CreateAsyncWork _ _ _ w) = one w
-result_registers (op.CreateThreadsafeFunction _ _ _ _ _ _ w) = one w
-result_registers (op.GetThreadsafeFunctionContext _ w) = one w
-result_registers (op.GetVersion w) = one w
-result_registers (op.Collect w) = one w
+result_registers (op.CallFunction _ _ _ w) = singleton w
+result_registers (op.IsExceptionPending w) = singleton w
+result_registers (op.GetAndClearLastException w) = singleton w
+result_registers (op.GetLastErrorInfo w) = singleton w
+result_registers (op.GetInstanceData w) = singleton w
+result_registers (op.CreateAsyncWork _ _ _ w) = singleton w
+result_registers (op.CreateThreadsafeFunction _ _ _ _ _ _ w) = singleton w
+result_registers (op.GetThreadsafeFunctionContext _ w) = singleton w
+result_registers (op.GetVersion w) = singleton w
+result_registers (op.Collect w) = singleton w
 result_registers _ = []
 
 -- a flag as a number
@@ -176,17 +176,17 @@ flag_number false = 0
 
 -- the numbers that registers keep of a result: a signed one modulo 2 ^ 64, and 0 where there is no handle
 abbrev pub register_values : Out → List ℕ
-register_values (out.Handle h) = one h.0
-register_values out.NoHandle = one 0
-register_values (out.Scope s) = one s.0
-register_values (out.Ref r) = one r.0
-register_values (out.Work w) = one w.0
-register_values (out.Function f) = one f.0
-register_values (out.Signed i) = one (cast_unsigned w64 i)
-register_values (out.Unsigned n) = one n
-register_values (out.Flag b) = one (flag_number b)
-register_values (out.Text t) = one t.0
-register_values (out.Kind k) = one (kind_number k)
+register_values (out.Handle h) = singleton h.0
+register_values out.NoHandle = singleton 0
+register_values (out.Scope s) = singleton s.0
+register_values (out.Ref r) = singleton r.0
+register_values (out.Work w) = singleton w.0
+register_values (out.Function f) = singleton f.0
+register_values (out.Signed i) = singleton (cast_unsigned w64 i)
+register_values (out.Unsigned n) = singleton n
+register_values (out.Flag b) = singleton (flag_number b)
+register_values (out.Text t) = singleton t.0
+register_values (out.Kind k) = singleton (kind_number k)
 register_values _ = []
 
 -- the operation of an entry at a step, both counted from 0

@@ -6,7 +6,7 @@ use Rattle.napi_types.specs.declared.call.Call.TheVariants as call
 use Rattle.napi_types.specs.declared.entry.Out.TheVariants as out
 use Rattle.napi_types.specs.declared.status.Status.{Status}
 use Rattle.napi_types.specs.declared.status.Status.TheVariants as status
-use Rattle.napi_types.specs.plain.Lists.{has_number, one, unless}
+use Rattle.napi_types.specs.plain.Lists.{has_number, singleton, unless}
 use Rattle.napi_types.specs.plain.Replies.{plain}
 use Rattle.napi_types.specs.parts.HeapRefusals.{kind_refusal, row_refusal}
 use Rattle.napi_types.specs.parts.NamedNumbers.{handles_of, texts_of, unknown_refusal}
@@ -80,7 +80,7 @@ unknown e c h here none =
     }
 
 -- a handle is among those of a call that names it alone
-named : (h : ℕ) → has_number h (one h) ≡ true
+named : (h : ℕ) → has_number h (singleton h) ≡ true
 named h = rw (itself h) refl
   where
     itself : (h : ℕ) → (h == h) ≡ true

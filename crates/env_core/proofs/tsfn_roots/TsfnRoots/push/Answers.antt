@@ -1,6 +1,6 @@
 use Rattle.std.proofs.Common.{◌≡◌, ◌∙◌, ◌++◌, ◌<◌, true, refl, ap, sym}
 use Rattle.std.specs.List.{All}
-use Rattle.napi_types.specs.plain.Lists.{one}
+use Rattle.napi_types.specs.plain.Lists.{singleton}
 use Rattle.env_core.specs.declared.tsfn_roots.RootRow.{RootRow}
 use Rattle.env_core.specs.TsfnRooting.{root_of_row, kept_roots, AreRootRows}
 use Rattle.env_core.proofs.TsfnRooting.{rows-closed, closed-kept, rows-pushed, kept-pushed}
@@ -32,4 +32,4 @@ returns c =
       | then-capacity-len w ↦ rw (w.self-inside-is, w.close_up.ensures.items) (closed-kept c.self.inside.rows.items ∙ c.self.view_is)
       | else-capacity-len w ↦ rw w.self-inside-is c.self.view_is
     ] in
-    rw (c.push_back_reserved.ensures.items, c.make_place.ensures.items) (kept-pushed m.rows.items row refl ∙ ap (λ l. l ++ one (root_of_row row)) same)
+    rw (c.push_back_reserved.ensures.items, c.make_place.ensures.items) (kept-pushed m.rows.items row refl ∙ ap (λ l. l ++ singleton (root_of_row row)) same)
