@@ -35,7 +35,7 @@ pub(crate) fn place_of<J: Job>(
     places.get(id)
 }
 
-/// A work that was not queued before gets a number, and gives its job and its memory away.
+/// Numbers a work as it is queued, and takes its job and its slip out of its place.
 pub(crate) fn give_number<J: Job>(
     places: &mut GenerationSlab<WorkPlace<J>>,
     id: u64,

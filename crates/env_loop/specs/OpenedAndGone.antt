@@ -38,8 +38,8 @@ GoneRunsHaveEnded = (s : Setting) (run : Run) (history : List Entry) (all : Addo
     → run.core.env.phase ≡ phase.Gone
     → IsEnded s run.core.journal history all firsts
 
--- the two lists are those of a run that came to its end, whatever script of these addons it is a run of, and whatever they saw first, where the run was followed
--- from its opening
+-- for every setting with these addons and whatever they saw first: where the run was followed from its opening, the two lists are those of a run that came to
+-- its end
 abbrev pub EndsWhole : Numbers → List Plan → Run → AddonStates → Record → AddonStates → Type 0
 EndsWhole n plans first before left now =
     (s : Setting) (firsts : List (List DueInfo)) → HasNumbers s n → IsOf s plans first.core → IsFollowed s first [] before firsts

@@ -37,7 +37,7 @@ abbrev pub WorkerRunsStandOverRows : Type 0
 WorkerRunsStandOverRows = (n : Numbers) (s new : HubSeen) (w : WorkerSeen) → IsReplayed n s → IsReplayed n new → IsWorkerOf n s w
     → OthersCame n.threads (pass_of n.threads (actor.Worker w.number)) s.history new.history → IsWorkerOf n new w
 
--- so it is of an actor
+-- the same of an actor
 abbrev pub ActorRunsStandOverRows : Type 0 → Type 0
 ActorRunsStandOverRows J = (n : Numbers) (s new : HubSeen) (a : ActorRun J) → IsReplayed n s → IsReplayed n new → IsActorOf n s a
     → OthersCame n.threads (pass_of n.threads (actor_of a)) s.history new.history → IsActorOf n new a

@@ -30,7 +30,7 @@ impl Model for InstanceTable {
 }
 
 impl InstanceTable {
-    /// None was set.
+    /// A table with a place for each addon, all empty.
     pub(crate) fn new(alloc: Global, addons: u32) -> Result<InstanceTable, NoMemory>
         ensures { IfOk result (λ instances. instances ≡ replicate addons None) }
     {

@@ -53,7 +53,7 @@ pub record Looked (n : Numbers) (old new : PassState) (Shows : HubSeen → Type 
   pub own : new.own ≡ old.own
   pub shows : Shows (hub_seen n history)
 
--- nothing in particular
+-- no demand: true of every hub
 abbrev pub Anything : HubSeen → Type 0
 Anything s = Unit {0}
 

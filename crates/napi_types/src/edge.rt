@@ -51,7 +51,7 @@ pub trait Sink {
         ensures faults { faults self.old ≤ faults self.new };
 }
 
-/// Places at which a test may hold a thread until it lets it go. It has no meaning.
+/// Places at which a test may hold a thread until the test lets it go. No contract depends on them.
 pub trait Gate: Sync {
     /// Called by the actor with this pass number. Point 1 is between a worker's start of a job and its execution,
     /// point 2 before each operation of a script's thread.

@@ -14,7 +14,7 @@ pub record HasFollowedOn (n : Numbers) (plans : List Plan) (first : Run) (before
   pub fits : FitsHub run s
   pub goes : FollowsOnAt n plans first [] before run s.history now
 
--- so it stands beside the environment's pass
+-- the same at the environment's pass: of the hub to which a history has led that begins what the pass has seen
 abbrev pub HasFollowedOnAtPass : Numbers → List Plan → Run → AddonStates → PassState → Run → AddonStates → Type 0
 HasFollowedOnAtPass n plans first before p run now = HoldsAtPass n p (HasFollowedOn n plans first before run now)
 

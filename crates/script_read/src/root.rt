@@ -80,7 +80,7 @@ fn workers_in(found: Option<&Value>) -> Result<u32, ReadingStop>
     }
 }
 
-/// The table of the texts that stand in every one.
+/// The three texts with which every table begins.
 fn first_texts(alloc: Global) -> Result<TextTable, ReadingStop>
     ensures ok { IfOk result (λ table. table ≡ fixed_texts) }
     ensures right { (w : Mistake) → ¬ (result ≡ Err (ReadingStop.Mistake w)) }

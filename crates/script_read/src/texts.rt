@@ -58,7 +58,7 @@ fn put(
 }
 
 impl TextTable {
-    /// The table of the texts that stand in every one.
+    /// The three texts with which every table begins.
     pub(crate) fn fixed(alloc: Global) -> Result<TextTable, NoMemory>
         ensures { IfOk result (λ table. table ≡ fixed_texts) }
     {

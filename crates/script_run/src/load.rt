@@ -39,7 +39,7 @@ pub fn load_script(alloc: Global, number: u32) -> Result<Script, NoMemory>
     })
 }
 
-/// The table of the texts that stand in every one.
+/// The three texts with which every table begins.
 fn fixed(alloc: Global) -> Result<Texts, NoMemory>
     ensures { IfOk result (λ texts. texts ≡ fixed_texts) }
 {

@@ -140,7 +140,7 @@ impl<J: Job, N: Naming> HubState<J, N> {
         let _limit = self.limit;
     }
 
-    /// Notes that the thread that holds the turn waits for `go`. No answer of the hub says so, since it makes no call before. It has no meaning.
+    /// Notes that the thread that holds the turn waits for `go`. No answer of the hub says so, since it makes no call before. No contract depends on the note.
     pub fn wait_for_go(&mut self)
         ensures { self.new ≡ self.old }
     {
@@ -148,28 +148,28 @@ impl<J: Job, N: Naming> HubState<J, N> {
     }
 
     /// For what the one that holds the turn waits, where the hub's last answer said that it does. Nothing is noted of that any more. Who will not sleep takes
-    /// the note so, before it gives the turn back. It has no meaning.
+    /// the note so, before it gives the turn back. No contract depends on it.
     pub fn take_wait(&mut self) -> Option<WaitsFor>
         ensures { self.new ≡ self.old }
     {
         self.sleepers.take_wait()
     }
 
-    /// Notes that the pass of this number, from 0 to 63, sleeps until it is rung. It has no meaning, and takes no memory.
+    /// Notes that the pass of this number, from 0 to 63, sleeps until it is rung. No contract depends on the note, and it takes no memory.
     pub fn note_sleep(&mut self, number: u32, why: WaitsFor)
         ensures { self.new ≡ self.old }
     {
         self.sleepers.fall_asleep(number, why);
     }
 
-    /// The passes that are to be rung, a bit for each number. None is to be rung after that. It has no meaning.
+    /// The passes that are to be rung, a bit for each number. None is to be rung after that. No contract depends on them.
     pub fn take_rings(&mut self) -> u64
         ensures { self.new ≡ self.old }
     {
         self.sleepers.take_rings()
     }
 
-    /// How often it was noted that a pass will sleep. It has no meaning: see [`HubState::note_sleep`].
+    /// How often it was noted that a pass will sleep. No contract depends on it: see [`HubState::note_sleep`].
     pub fn sleeps(&self) -> u64 {
         self.sleepers.sleeps()
     }

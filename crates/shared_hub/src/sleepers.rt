@@ -56,8 +56,7 @@ impl SleepingPlace {
     }
 }
 
-/// A note of which passes sleep, and of which are to be rung once the turn is given back. It has no meaning: contracts do not see it, and
-/// no answer of the hub depends on it.
+/// A note of which passes sleep, and of which are to be rung once the turn is given back. Contracts do not see it, and no answer of the hub depends on it.
 #[derive(Clone, Copy)]
 pub(crate) struct Sleepers {
     places: [SleepingPlace; 64],

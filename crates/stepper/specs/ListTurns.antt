@@ -27,8 +27,8 @@ module _ {J : Type 0} where
   HasScript scripts (run.OfThread t) = slice_get scripts t.number ≡ Some t.operations
   HasScript scripts (run.OfWorker w) = Unit {0}
 
-  -- whatever script of these addons and threads it is a run of, and whatever the addons saw first, a run that was followed went on by these turns, as its two
-  -- lists show them
+  -- for every setting with these addons and threads, and whatever the addons saw first: a run that was followed went on by these turns, as its two lists show
+  -- them
   abbrev pub LeadsLists : Numbers → List Plan → List Actor → Moment J → Moment J → Type 0
   LeadsLists n plans turns old new =
       (s : Setting) (scripts : List (List Op)) (firsts : List (List DueInfo)) → HasNumbers s n → IsOf s plans old.env.run.core

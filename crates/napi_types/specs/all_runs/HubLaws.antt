@@ -64,7 +64,7 @@ abbrev pub PrefixesKeepScripts : Type 0
 PrefixesKeepScripts =
     (s : Setting) (t : ℕ) (operations : List Op) (prefix rest : List Entry) → KeepsScript s t operations (prefix ++ rest) → KeepsScript s t operations prefix
 
--- so do all threads: entries of workers and of the environment behind a history leave what it keeps, and each prefix of it keeps the scripts
+-- the same of all threads: `ThreadsKeep` survives entries of others, and holds of each prefix
 abbrev pub ThreadsKeepAsOthersGoOn : Type 0
 ThreadsKeepAsOthersGoOn = (s : Setting) (scripts : List (List Op)) (history rest : List Entry) → All (λ x. (t : ℕ) → is_thread t x.actor ≡ false) rest
     → ThreadsKeep s scripts history → ThreadsKeep s scripts (history ++ rest)

@@ -48,7 +48,7 @@ pub record GoesOnBehind (limit threads workers : ℕ) (prefix rest : List Entry)
   pub replays : HubReplays limit (hub_along (new_hub threads workers) prefix) (length prefix) rest
   pub hub : hub_along (hub_along (new_hub threads workers) prefix) rest ≡ h
 
--- a history that has led to a hub may be parted so behind each prefix of it
+-- a history that leads to a hub splits at each prefix: the prefix leads to a hub, and the rest from there
 abbrev pub PrefixesReplay : Type 0
 PrefixesReplay = (limit threads workers : ℕ) (prefix rest : List Entry) (h : Hub) → LeadsTo limit threads workers (prefix ++ rest) h
     → GoesOnBehind limit threads workers prefix rest h
