@@ -213,10 +213,19 @@ def results():
     return table(["`Out`", "Of which calls"], rows)
 
 
+def changes():
+    """Returns the table of MACHINE that tells what calls change: those that change the same stand in one row, and those that change nothing in the last."""
+    rows = {}
+    for call in call_table.calls():
+        rows.setdefault(call.change, []).append(f"`{call.name}`")
+    return table(["Call", "Change"], [[", ".join(names), change or "none"] for change, names in sorted(rows.items(), key=lambda it: it[0] is None)])
+
+
 PARTS = {
     "docs/FORMATS.md": {"operations": operations, "operations of a thread": thread_operations, "calls": calls, "calls that register": registering},
     "docs/NODE.md": {"functions": functions, "calls": node_calls, "statuses": statuses},
     "docs/EMBEDDING.md": {"results": results},
+    "docs/MACHINE.md": {"changes": changes},
 }
 
 
@@ -248,9 +257,9 @@ def numbers():
     return {README[0]: f"{built} ({percent}", "docs/OPEN.md": f"{total - built} of the manual's {total}", "docs/MACHINE.md": str(len(call_table.calls()))}
 
 
-def with_numbers(path, pattern):
-    """Returns what a page has to be that has these numbers where the words stand, if they stand there."""
-    return pattern.sub(numbers()[path], pages.text_of(path))
+def with_numbers(path, pattern, text):
+    """Returns a text of a page with these numbers where the words stand, if they stand there."""
+    return pattern.sub(numbers()[path], text)
 
 
 def written():
@@ -258,4 +267,5 @@ def written():
     path, pattern = README
     if len(pattern.findall(pages.text_of(path))) != 1:
         raise NoPart(f"{path} has not the words `builds N (P %)`, once")
-    return {**{it: page_of(it) for it in PARTS}, **{it: with_numbers(it, of) for it, of in {path: pattern, **ELSEWHERE}.items()}}
+    parts = {it: page_of(it) for it in PARTS}
+    return {**parts, **{it: with_numbers(it, of, parts.get(it) or pages.text_of(it)) for it, of in {path: pattern, **ELSEWHERE}.items()}}

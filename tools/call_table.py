@@ -21,11 +21,11 @@ class Result:
 
 class Function:
     """A function of the manual, or a call of this environment's own: its line, its heading, its name in the manual, and since which version it is there.
-    One that is built has its name in a script, the names and the forms of its arguments, its result and what that is, and its own refusals."""
+    One that is built has its name in a script, the names and the forms of its arguments, its result and what that is, its own refusals, and what it changes."""
 
     def __init__(self, place, heading, manual):
         self.place, self.heading, self.manual, self.since = place, heading, manual, FIRST_VERSION
-        self.name, self.result, self.note, self.names, self.arguments, self.refusals = None, None, None, [], [], []
+        self.name, self.result, self.note, self.names, self.arguments, self.refusals, self.change = None, None, None, [], [], [], None
 
     def forms(self):
         """Returns the forms of the arguments of its operation, with those of the registers that keep the result."""
@@ -76,14 +76,15 @@ def function_of(place, heading, line, results):
     """Returns the function that a line of the other parts says."""
     first, *cells = line.split(" | ")
     since = cells.pop().removeprefix("since ") if cells and cells[-1].startswith("since ") else str(FIRST_VERSION)
+    change = cells.pop().removeprefix("=> ") if cells and cells[-1].startswith("=> ") else None
     head = CALL.fullmatch(first)
-    if first.startswith("- ") and not cells:
+    if first.startswith("- ") and not cells and not change:
         found = Function(place, heading, first.removeprefix("- "))
     elif head and head[3] in results and len(cells) <= 1:
         found = Function(place, heading, head[1] if heading == OWN else f"napi_{head[1]}")
         found.name, found.result, found.note = head[1], results[head[3]], head[4]
         found.names, found.arguments = arguments_of(place, head[2])
-        found.refusals = cells[0].split("; ") if cells else []
+        found.refusals, found.change = cells[0].split("; ") if cells else [], change
     else:
         raise WrongTable(f"{place}: this is no line of a function: {line}")
     if not since.isdigit() or not all(it.isdigit() for it in found.statuses()):
