@@ -1,5 +1,5 @@
 //! The values of handles, and what a call may expect of a value.
-ghost use Rattle.std.specs.Prelude.{◌≡◌, true, false, is_some, nat_lt, option_map, IfSome, IfOk, IfErr, OnOk};
+ghost use Rattle.std.specs.Prelude.{◌==◌, ◌≡◌, true, false, is_some, nat_lt, option_map, IfSome, IfOk, IfErr, OnOk};
 ghost use Rattle.napi_types.specs.parts.Bodies.{is_object_like, is_string, is_number, is_bigint, is_boolean, is_array, is_external, is_error_body, signed_of, flag_of, text_of, external_payload, strictly_equal};
 ghost use Rattle.napi_types.specs.parts.Graph.{number_in, IsLive, IsSoundStore};
 ghost use Rattle.napi_types.specs.parts.Properties.{element_at};
@@ -85,7 +85,7 @@ pub(crate) fn object_like(body: Body) -> Result<(), Status>
     ensures refused { IfErr result (λ status. status ≡ Status.ObjectExpected) }
 {
     match body {
-        Body::Object { .. } | Body::Function { .. } => Ok(()),
+        Body::Object { .. } | Body::Linked { .. } | Body::Function { .. } => Ok(()),
         _ => Err(Status::ObjectExpected),
     }
 }
@@ -188,20 +188,42 @@ pub fn invariant(store: &Store)
     let _ = store.get(store.starting(0));
 }
 
+/// Whether two values are one.
+fn is_same(store: &Store, left: HandleValue, right: HandleValue) -> bool
+    requires left { IsStored store.now left }
+    requires right { IsStored store.now right }
+    ensures { result ≡ (number_in store.now left.id.0 == number_in store.now right.id.0) }
+{
+    // No two live values have one creation number.
+    invariant(store);
+    left.id.0 == right.id.0
+}
+
 /// Whether two values are strictly equal (`===`).
 pub(crate) fn equals_strictly(store: &Store, left: HandleValue, right: HandleValue) -> bool
     requires left { IsStored store.now left }
     requires right { IsStored store.now right }
     ensures { result ≡ strictly_equal left.body (number_in store.now left.id.0) right.body (number_in store.now right.id.0) }
 {
-    // No two live values have one creation number.
-    invariant(store);
-    match (left.body, right.body) {
-        (Body::Number(left), Body::Number(right)) => left == right,
-        (Body::Bigint(left), Body::Bigint(right)) => left == right,
-        (Body::Boolean(left), Body::Boolean(right)) => left == right,
-        (Body::Str(left), Body::Str(right)) => left.0 == right.0,
-        _ => left.id.0 == right.id.0,
+    let same = is_same(store, left, right);
+    match left.body {
+        Body::Number(left) => match right.body {
+            Body::Number(right) => left == right,
+            _ => same,
+        },
+        Body::Bigint(left) => match right.body {
+            Body::Bigint(right) => left == right,
+            _ => same,
+        },
+        Body::Boolean(left) => match right.body {
+            Body::Boolean(right) => left == right,
+            _ => same,
+        },
+        Body::Str(left) => match right.body {
+            Body::Str(right) => left.0 == right.0,
+            _ => same,
+        },
+        _ => same,
     }
 }
 

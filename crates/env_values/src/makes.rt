@@ -1,6 +1,7 @@
 //! The calls that give handles: of starting values, and of values that they make.
 ghost use Rattle.std.specs.Prelude.{◌≡◌, ◌≢◌, ◌+◌, ◌<◌, ◌≤◌, ◌^◌, [], length, IfOk, OnOk, OnErr};
 ghost use Rattle.napi_types.specs.plain.Replies.{accepts};
+ghost use Rattle.napi_types.specs.parts.Bodies.{NamesNoChild};
 ghost use Rattle.napi_types.specs.parts.Graph.{IsLive, number_in};
 ghost use Rattle.napi_types.specs.parts.HeapChanges.{handle_of, new_value, new_list};
 ghost use Rattle.env_values.specs.KeepingHeaps.{CanGive, CanMake, KeepsScopes, KeepsHeap};
@@ -24,9 +25,10 @@ pub(crate) fn give(store: &Store, scopes: &mut Scopes, value: ValueId) -> Result
     Ok(Out::Handle(scopes.issue(value)?))
 }
 
-/// Makes a value, and gives its handle.
+/// Makes a value of a body that names no child, and gives its handle.
 pub(crate) fn give_new(store: &mut Store, scopes: &mut Scopes, body: Body) -> Result<Out, NoMemory>
     requires able { CanMake 1 store.old scopes.old }
+    requires alone { NamesNoChild body }
     ensures gives { let before = heap_of store.old scopes.old in
         GivesHandle (new_value body before) before result (heap_of store.new scopes.new) }
     ensures keeps { KeepsHeap store.old scopes.old store.new scopes.new }
@@ -43,6 +45,7 @@ pub fn make_held(
     body: Body,
 ) -> Result<(ValueId, Out), NoMemory>
     requires able { CanMake 1 store.old scopes.old }
+    requires alone { NamesNoChild body }
     ensures live { IfOk result (λ held. IsLive store.new held.0.0) }
     ensures number { IfOk result (λ held. number_in store.new held.0.0 ≡ store.old.made + 1) }
     ensures gives { let before = heap_of store.old scopes.old in
@@ -61,6 +64,7 @@ fn make_handle(
     body: Body,
 ) -> Result<(ValueId, HandleId), NoMemory>
     requires able { CanMake 1 store.old scopes.old }
+    requires alone { NamesNoChild body }
     ensures live { IfOk result (λ made. IsLive store.new made.0.0) }
     ensures number { IfOk result (λ made. number_in store.new made.0.0 ≡ store.old.made + 1) }
     ensures gives { let before = heap_of store.old scopes.old in

@@ -1,6 +1,8 @@
 //! The names of an object's properties.
 ghost use Rattle.std.specs.Prelude.{◌≡◌, ℕ, ◌≢◌, ◌+◌, ◌<◌, ◌≤◌, ◌^◌, [], true, false, length, nat_lt, None, IfOk, IfErr, OnOk};
+ghost use Rattle.std.specs.List.{All};
 ghost use Rattle.std.specs.declared.result.Result.TheVariants.{Err};
+ghost use Rattle.napi_types.specs.parts.Bodies.{NamesNoChild};
 ghost use Rattle.napi_types.specs.parts.Heap.{handle_properties};
 ghost use Rattle.napi_types.specs.parts.HeapChanges.{new_list};
 ghost use Rattle.napi_types.specs.parts.Properties.{most_names};
@@ -72,6 +74,7 @@ fn listed_names(
 fn give_list(store: &mut Store, scopes: &mut Scopes, bodies: &[Body]) -> Result<Out, NoMemory>
     requires count { length bodies.now ≤ most_names }
     requires able { CanMake (length bodies.now + 1) store.old scopes.old }
+    requires alone { All NamesNoChild bodies.now }
     ensures gives { let before = heap_of store.old scopes.old in
         GivesHandle (new_list bodies.now before) before result (heap_of store.new scopes.new) }
     ensures keeps { KeepsHeap store.old scopes.old store.new scopes.new }

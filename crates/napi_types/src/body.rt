@@ -1,8 +1,8 @@
 //! What a value is.
-ghost use Rattle.std.specs.Prelude.{◌≡◌};
-ghost use Rattle.napi_types.specs.parts.Bodies.{kind_of};
+ghost use Rattle.std.specs.Prelude.{◌≡◌, Some, option_map, IsTrue};
+ghost use Rattle.napi_types.specs.parts.Bodies.{kind_of, is_linked, child_of, without_child};
 
-use crate::{Kind, TextNo};
+use crate::{Kind, TextNo, ValueId};
 
 /// What a value is, its properties and elements aside. An array and an error are objects.
 #[derive(Clone, Copy, Debug, PartialEq, Eq)]
@@ -27,6 +27,13 @@ pub enum Body {
         payload: u64,
     },
     External(u64),
+    /// An object with at most one hidden child, which no property and no element names. The tag tells what the value is for.
+    ///
+    /// A child is named here where the value is made. The body of a value that is there names none: its child stands beside the body.
+    Linked {
+        tag: u8,
+        to: Option<ValueId>,
+    },
 }
 
 impl Body {
@@ -45,6 +52,39 @@ impl Body {
             Body::Object { .. } => Kind::Object,
             Body::Function { .. } => Kind::Function,
             Body::External(_) => Kind::External,
+            Body::Linked { .. } => Kind::Object,
+        }
+    }
+
+    /// The hidden child that is named here, `None` exactly where none is.
+    pub fn child(self) -> Option<ValueId>
+        ensures { option_map (λ v. v.0) result ≡ child_of self }
+    {
+        match self {
+            Body::Linked { to, .. } => to,
+            _ => None,
+        }
+    }
+
+    /// The same, with no child named.
+    pub fn without_child(self) -> Body
+        ensures { result ≡ without_child self }
+    {
+        match self {
+            Body::Linked { tag, .. } => Body::Linked { tag, to: None },
+            other => other,
+        }
+    }
+
+    /// The same, with this child named.
+    pub fn with_child(self, to: ValueId) -> Body
+        requires { IsTrue (is_linked self) }
+        ensures child { child_of result ≡ Some to.0 }
+        ensures rest { without_child result ≡ without_child self }
+    {
+        match self {
+            Body::Linked { tag, .. } => Body::Linked { tag, to: Some(to) },
+            other => other,
         }
     }
 }

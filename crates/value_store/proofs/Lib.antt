@@ -5,6 +5,7 @@ pub mod Errors
 pub mod FewProperties
 pub mod Graphs
 pub mod Growing
+pub mod Linked
 pub mod Listing
 pub mod LiveValues
 pub mod Lookup

@@ -2,9 +2,10 @@
 use Rattle.std.proofs.Common.{◌≡◌, ◌∙◌, ℕ, suc, ◌+◌, ◌-◌, ◌<◌, ◌≤◌, List, [], ◌∷◌, ◌++◌, map, length, take, get_or, Option, Some, refl, ap, sym, subst, arith, append-nil}
 use Rattle.std.specs.List.{All, filter_map, range_with_len}
 use Rattle.std.proofs.lemmas.List.{length-take-le, take_more, take_all}
-use Rattle.std.proofs.lemmas.List.Elements.{All-nil}
+use Rattle.std.proofs.lemmas.List.Elements.{All-nil, All-get_or}
 use Rattle.generation_slab.specs.HeldPlaces.{HeldPlaces, EachStandsOnce as EachHeldOnce}
 use Rattle.napi_types.specs.declared.body.Body.{Body}
+use Rattle.napi_types.specs.parts.Bodies.{NamesNoChild}
 use Rattle.napi_types.specs.parts.Graph.{IsLive, number_in}
 use Rattle.napi_types.specs.parts.NewValues.{made_after, array_of, list_of}
 use Rattle.napi_types.specs.parts.Values.{children, fresh_value, with_element}
@@ -13,6 +14,7 @@ use Rattle.value_store.specs.declared.contents.Contents.TheVariants.{Plain}
 use Rattle.value_store.specs.declared.record.ValueRecord.{ValueRecord}
 use Rattle.value_store.specs.Contents.{value_here, state_of, HasValue, ChangesPlace, AddsRecord, IsGood, Grows, GrowsTo, ListsSoFar}
 use Rattle.value_store.proofs.Growing.{grows-none, put-one, put-last}
+use Rattle.value_store.proofs.Linked.{plain-here}
 use Rattle.value_store.proofs.PropertyNames.{distinct-none}
 use Rattle.value_store.proofs.RenamedParts.{array-named, array-more}
 
@@ -63,14 +65,14 @@ module _ (old : HeldPlaces ValueRecord) (made : ℕ) (bodies : List Body) where
       less-none : (n : ℕ) → n ≡ n - 0
       less-none n = omega arith
 
-  pub list-turn : (now next : HeldPlaces ValueRecord) (array after : Contents) (at number id : ℕ) (d : Body) → ListsSoFar old now made bodies array at
+  pub list-turn : (now next : HeldPlaces ValueRecord) (array after : Contents) (at number id : ℕ) (d : Body) → All NamesNoChild bodies → ListsSoFar old now made bodies array at
       → at < length bodies
       → number ≡ made + at + 1 → AddsRecord now next id (record { number = number; value = Plain (get_or bodies at d) }) → next.room + 1 ≡ now.room → ChangesPlace array after (with_element at id)
       → ListsSoFar old next made bodies after (at + 1)
-  list-turn now next array after at number id d so_far less is adds room changes =
+  list-turn now next array after at number id d alone so_far less is adds room changes =
       let b : Body = get_or bodies at d in
       let front : length (take at bodies) ≡ at = length-take-le at bodies (omega (arith, less)) in
-      let one = put-one now next (made + at) number id (Plain b) (fresh_value number b) refl adds is (state_of old made) (made_after made (take at bodies)) so_far.ids so_far.grows
+      let one = put-one now next (made + at) number id (Plain b) (fresh_value number b) (plain-here number b (All-get_or NamesNoChild bodies at d less alone)) adds is (state_of old made) (made_after made (take at bodies)) so_far.ids so_far.grows
       distinct-none (All-nil (IsLive (state_of now (made + at)))) (fresh_value number b) refl in
       record {
         ids = so_far.ids ++ id ∷ [];

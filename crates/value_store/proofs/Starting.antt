@@ -8,6 +8,7 @@ use Rattle.napi_types.specs.declared.body.Body.{Body}
 use Rattle.napi_types.specs.declared.body.Body.TheVariants as body
 use Rattle.napi_types.specs.declared.ids.ValueId.{ValueId}
 use Rattle.napi_types.specs.plain.Lists.{has_number, tail}
+use Rattle.napi_types.specs.parts.Bodies.{NamesNoChild}
 use Rattle.napi_types.specs.parts.Graph.{StoreState, IsLive, value_of, number_in, renamed, graph_of}
 use Rattle.napi_types.specs.parts.Values.{Value, fresh_value, value_at, starting_values}
 use Rattle.value_store.specs.declared.contents.Contents.TheVariants.{Plain}
@@ -16,6 +17,7 @@ use Rattle.value_store.specs.StoreChanges.{id_at, IsStarting}
 use Rattle.value_store.specs.Contents.{state_of, AddsRecord, IsGood, Grows, IsKeptStore}
 use Rattle.value_store.proofs.Graphs.{graph-read}
 use Rattle.value_store.proofs.Growing.{grows-none, put-one}
+use Rattle.value_store.proofs.Linked.{plain-here}
 use Rattle.value_store.proofs.PropertyNames.{distinct-none}
 
 -- nothing is there
@@ -67,19 +69,19 @@ module _ (old s0 s1 s2 s3 s4 s5 : HeldPlaces ValueRecord) (i1 i2 i3 i4 i5 : Valu
   first : IsGood (state_of old 0)
   first = none-good old empty none
 
-  put : (s t : HeldPlaces ValueRecord) (m n id : ℕ) (b : Body) (vs : List Value) (ids : List ℕ) → AddsRecord s t id (record { number = n; value = Plain b }) → n ≡ m + 1 → Grows (state_of old 0) (state_of s m) vs ids
+  put : (s t : HeldPlaces ValueRecord) (m n id : ℕ) (b : Body) (vs : List Value) (ids : List ℕ) → NamesNoChild b → AddsRecord s t id (record { number = n; value = Plain b }) → n ≡ m + 1 → Grows (state_of old 0) (state_of s m) vs ids
       → Grows (state_of old 0) (state_of t n) (vs ++ fresh_value n b ∷ []) (ids ++ id ∷ [])
-  put s t m n id b vs ids adds is grows =
-      put-one s t m n id (Plain b) (fresh_value n b) refl adds is (state_of old 0) vs ids grows distinct-none (All-nil (IsLive (state_of s m))) (fresh_value n b) refl
+  put s t m n id b vs ids alone adds is grows =
+      put-one s t m n id (Plain b) (fresh_value n b) (plain-here n b alone) adds is (state_of old 0) vs ids grows distinct-none (All-nil (IsLive (state_of s m))) (fresh_value n b) refl
 
   all : Grows (state_of old 0) (state_of s5 5) starting_values (i1.0 ∷ i2.0 ∷ i3.0 ∷ i4.0 ∷ i5.0 ∷ [])
   all =
       let g0 : Grows (state_of old 0) (state_of s0 0) [] [] = subst (λ s. Grows (state_of old 0) (state_of s 0) [] []) (sym kept) (grows-none (state_of old 0) first) in
-      let g1 = put s0 s1 0 1 i1.0 body.Undefined [] [] a1 refl g0 in
-      let g2 = put s1 s2 1 2 i2.0 body.Null _ _ a2 refl g1 in
-      let g3 = put s2 s3 2 3 i3.0 (body.Boolean true) _ _ a3 refl g2 in
-      let g4 = put s3 s4 3 4 i4.0 (body.Boolean false) _ _ a4 refl g3 in
-      put s4 s5 4 5 i5.0 (body.Object false false) _ _ a5 refl g4
+      let g1 = put s0 s1 0 1 i1.0 body.Undefined [] [] refl a1 refl g0 in
+      let g2 = put s1 s2 1 2 i2.0 body.Null _ _ refl a2 refl g1 in
+      let g3 = put s2 s3 2 3 i3.0 (body.Boolean true) _ _ refl a3 refl g2 in
+      let g4 = put s3 s4 3 4 i4.0 (body.Boolean false) _ _ refl a4 refl g3 in
+      put s4 s5 4 5 i5.0 (body.Object false false) _ _ refl a5 refl g4
 
   pub all-graph : graph_of (state_of s5 5) ≡ starting_values
   all-graph = all.graph

@@ -1,5 +1,5 @@
 -- What the calls of a store leave of it.
-use Rattle.std.proofs.Common.{◌≡◌, ◌∙◌, ℕ, ◌+◌, ◌<◌, ◌==◌, Bool, true, false, cond, List, [], ◌∷◌, ◌++◌, map, filter, not, length, Option, Some, None, IsSome, OnOk, OnErr, option_map, slice_index_or, zero, suc, refl, ap, sym, subst, arith}
+use Rattle.std.proofs.Common.{◌≡◌, ◌∙◌, ℕ, ◌+◌, ◌<◌, ◌==◌, Bool, true, false, cond, List, [], ◌∷◌, ◌++◌, map, filter, not, length, Option, Some, None, IsSome, IsSomeAnd, IsTrue, OnOk, OnErr, option_map, slice_index_or, zero, suc, refl, ap, sym, subst, arith}
 use Rattle.std.specs.declared.result.Result.{Result}
 use Rattle.std.specs.declared.result.Result.TheVariants.{Ok, Err}
 use Rattle.std.specs.List.{All}
@@ -9,14 +9,16 @@ use Rattle.std.proofs.lemmas.List.Elements.{All-weaker}
 use Rattle.generation_slab.specs.HeldPlaces.{HeldPlaces, with_value_at, EachStandsOnce as EachHeldOnce, value_of as record_at}
 use Rattle.napi_types.specs.declared.ids.ValueId.{ValueId}
 use Rattle.napi_types.specs.plain.Lists.{has_number}
+use Rattle.napi_types.specs.parts.Bodies.{is_linked}
 use Rattle.napi_types.specs.parts.Graph.{Stored, StoreState, IsLive, value_of, number_in, renamed, graph_of}
 use Rattle.napi_types.specs.parts.Properties.{HasDistinctNames}
-use Rattle.napi_types.specs.parts.Values.{Value, children, value_changed, with_property, without_property, with_element}
+use Rattle.napi_types.specs.parts.Values.{Value, children, value_changed, with_property, without_property, with_element, with_link}
 use Rattle.value_store.specs.declared.contents.Contents.{Contents}
 use Rattle.value_store.specs.declared.record.ValueRecord.{ValueRecord}
-use Rattle.value_store.specs.StoreChanges.{MakesValue, MakesList, ChangesOnly, Frees, CanFree, StandsAt, id_at, properties_in}
-use Rattle.value_store.specs.Contents.{value_of_record, properties_here, state_of, HasValue, ChangesPlace, AddsRecord, IsGood, GrowsTo, NameStarting, IsKeptStore}
+use Rattle.value_store.specs.StoreChanges.{MakesValue, MakesList, ChangesOnly, Frees, CanFree, IsLinked, StandsAt, id_at, properties_in}
+use Rattle.value_store.specs.Contents.{value_of_record, body_here, properties_here, state_of, HasValue, ChangesPlace, AddsRecord, IsGood, GrowsTo, NameStarting, IsKeptStore}
 use Rattle.value_store.proofs.Graphs.{made-graph, changed-graph, freed-graph}
+use Rattle.value_store.proofs.Linked.{linked-here, link-named-so, children-with_link}
 use Rattle.value_store.proofs.Lookup.{apart-number}
 use Rattle.value_store.proofs.NamedPlaces.{children-with_property, children-without_property, children-with_element}
 use Rattle.value_store.proofs.Outcomes.{ok-then}
@@ -179,6 +181,23 @@ module _ (s : HeldPlaces ValueRecord) (made : ℕ) (starting : List ValueId) (ke
       pub element-graph : {A E : Type 0} (q : Result A E) (at : ℕ) → OnOk q (ChangesPlace r.value p (with_element at to))
           → OnOk q (graph_of (state_of after-change made) ≡ value_changed (number_in t k) (with_element at (number_in t to)) (graph_of t))
       element-graph q at = ok-then q (λ is. change-graph (with_element at to) is (λ v. (refl, refl)) (element-fits at) (with_element at (number_in t to)) (element-named-so t at to))
+
+    -- BY THE HIDDEN CHILD
+    pub link-there : IsLinked t k → IsTrue (is_linked (body_here r.value))
+    link-there h = linked-here r.number r.value (subst (λ (o : Option Value). IsSomeAnd o (λ v. IsTrue (is_linked v.body))) value-there h)
+
+    module _ (to : ℕ) (live : IsLive t to) (is : ChangesPlace r.value p (with_link to)) where
+      link-fits : (v : Value) → value_of t k ≡ Some v → let w : Value = with_link to v in HasDistinctNames w.properties × All (IsLive t) (children w)
+      link-fits v there = (good-view.sound.names k v there, children-with_link (IsLive t) to v live (good-view.sound.closed k v there))
+
+      pub link-kept : IsKeptStore after-change made starting
+      link-kept = change-kept (with_link to) is (λ v. (refl, refl)) link-fits
+
+      pub link-only : ChangesOnly t (state_of after-change made) k (with_link to)
+      link-only = change-only (with_link to) is (λ v. (refl, refl)) link-fits
+
+      pub link-graph : graph_of (state_of after-change made) ≡ value_changed (number_in t k) (with_link (number_in t to)) (graph_of t)
+      link-graph = change-graph (with_link to) is (λ v. (refl, refl)) link-fits (with_link (number_in t to)) (link-named-so t to)
 
     module _ (name : ℕ) (is : ChangesPlace r.value p (without_property name)) where
       removal-fits : (v : Value) → value_of t k ≡ Some v → let w : Value = without_property name v in HasDistinctNames w.properties × All (IsLive t) (children w)

@@ -5,6 +5,7 @@ use Rattle.generation_slab.specs.HeldPlaces as slab
 use Rattle.napi_types.specs.declared.body.Body.{Body}
 use Rattle.napi_types.specs.declared.ids.ValueId.{ValueId}
 use Rattle.napi_types.specs.plain.Lists.{has_number, with_number}
+use Rattle.napi_types.specs.parts.Bodies.{child_of, without_child}
 use Rattle.napi_types.specs.parts.Graph.{Stored, StoreState, IsSoundStore, IsLive, value_of, number_in, graph_of}
 use Rattle.napi_types.specs.parts.NewValues.{made_after, array_of}
 use Rattle.napi_types.specs.parts.Properties.{Property}
@@ -16,11 +17,17 @@ use Rattle.value_store.specs.PropertyMaps.{one_property}
 use Rattle.value_store.specs.declared.record.ValueRecord.{ValueRecord}
 use Rattle.value_store.specs.StoreChanges.{EachStandsOnce, IsStarting, IsFresh}
 
--- the value with this creation number that is and has this. The store keeps no links so far: no value of it has one
+-- the value with this creation number that is and has this. The body that is kept names the child; in the value the child stands beside the body
 abbrev pub value_here : ℕ → Contents → Value
-value_here n (Plain b) = fresh_value n b
-value_here n (One name to b) = record (fresh_value n b) { properties = one_property name to }
-value_here n (Full b parts) = record (fresh_value n b) { properties = parts.value.properties; elements = parts.value.elements }
+value_here n (Plain b) = record (fresh_value n (without_child b)) { link = child_of b }
+value_here n (One name to b) = record (fresh_value n (without_child b)) { properties = one_property name to; link = child_of b }
+value_here n (Full b parts) = record (fresh_value n (without_child b)) { properties = parts.value.properties; elements = parts.value.elements; link = child_of b }
+
+-- the body that is kept
+abbrev pub body_here : Contents → Body
+body_here (Plain b) = b
+body_here (One name to b) = b
+body_here (Full b parts) = b
 
 -- its properties and its elements
 abbrev pub properties_here : Contents → List Property

@@ -4,7 +4,7 @@ use Rattle.std.specs.List.{All, IsDistinct}
 use Rattle.napi_types.specs.declared.body.Body.{Body}
 use Rattle.napi_types.specs.declared.ids.ValueId.{ValueId}
 use Rattle.napi_types.specs.plain.Lists.{has_number}
-use Rattle.napi_types.specs.parts.Bodies.{is_object_like}
+use Rattle.napi_types.specs.parts.Bodies.{is_object_like, is_linked}
 use Rattle.napi_types.specs.parts.Graph.{StoreState, value_of, IsLive, creation_number, graph_of}
 use Rattle.napi_types.specs.parts.Properties.{Property}
 use Rattle.napi_types.specs.parts.Values.{Value, fresh_value, starting_values, value_at, children}
@@ -25,6 +25,10 @@ children_in s id = unwrap_or (option_map children (value_of s id)) []
 -- the number names a live object or function
 abbrev pub IsObject : StoreState → ℕ → Type 0
 IsObject s id = IsSomeAnd (value_of s id) (λ v. IsTrue (is_object_like v.body))
+
+-- the number names a live linked value
+abbrev pub IsLinked : StoreState → ℕ → Type 0
+IsLinked s id = IsSomeAnd (value_of s id) (λ v. IsTrue (is_linked v.body))
 
 -- the number of a new value was never issued, and is not 0
 abbrev pub IsFresh : ℕ → StoreState → Type 0

@@ -1,21 +1,23 @@
-//! The children of one value, which its properties and elements name.
-ghost use Rattle.std.specs.Prelude.{◌≡◌, ◌+◌, ◌<◌, ◌^◌, ◌++◌, [], ◌∷◌, length, map};
+//! The children of one value, which its properties and elements name, and its hidden child.
+ghost use Rattle.std.specs.Prelude.{◌≡◌, ◌+◌, ◌<◌, ◌^◌, ◌++◌, [], ◌∷◌, length, map, option_map, option_to_list};
 ghost use Rattle.std.specs.Option.{MatchOption};
 ghost use Rattle.value_store.specs.PropertyMaps.{numbers_in};
 
 use crate::PropertyWalk;
 use crate::walk::EntriesLeft;
 use indexmap::map::Slice;
-use napi_types::ValueId;
+use napi_types::{TextNo, ValueId};
 use std::marker::Model;
 
-/// The children of a value, which it names: first the values of its properties, in the order in which their names were first set,
-/// then its elements, in the order in which they were first set. A hole is no child. Contracts see those that were not yet taken.
+/// The children of a value: first its hidden child, where there is one, then the values of its properties, in the order in which their
+/// names were first set, then its elements, in the order in which they were first set. A hole is no child. Contracts see those that
+/// were not yet taken.
 #[derive(Drop)]
 pub struct Children<'a> {
     // How many are left. Most values have none, or an only one, so that no more is asked then.
     left: usize,
-    only: Option<ValueId>,
+    // A hidden child, or an only one.
+    first: Option<ValueId>,
     properties: PropertyWalk<'a>,
     elements: Slice<'a, u32, ValueId>,
 }
@@ -26,49 +28,54 @@ impl<'a> Model for Children<'a> {
 
     ghost Value = { List ℕ };
 
-    ghost view = { λ children. children_left children.only children.properties children.elements };
+    ghost view = { λ children. children_left children.first children.properties children.elements };
 
-    ghost invariant = { λ children. length (children_left children.only children.properties children.elements) ≡ children.left };
+    ghost invariant = { λ children. length (children_left children.first children.properties children.elements) ≡ children.left };
 }
 
 impl<'a> Children<'a> {
-    /// No children.
-    pub(crate) fn none() -> Children<'a>
-        ensures { result ≡ [] }
+    /// A hidden child alone, where there is one.
+    pub(crate) fn linked(link: Option<ValueId>) -> Children<'a>
+        ensures { result ≡ option_to_list (option_map (λ v. v.0) link) }
     {
         Children {
-            left: 0,
-            only: None,
+            left: if link.is_some() { 1 } else { 0 },
+            first: link,
             properties: PropertyWalk::over(EntriesLeft::Nothing),
             elements: Slice::new(),
         }
     }
 
-    /// One child, which a property names.
-    pub(crate) fn one(value: ValueId) -> Children<'a>
-        ensures { result ≡ value.0 ∷ [] }
+    /// A hidden child, where there is one, and the value of a property.
+    pub(crate) fn one(name: TextNo, value: ValueId, link: Option<ValueId>) -> Children<'a>
+        ensures { result ≡ option_to_list (option_map (λ v. v.0) link) ++ value.0 ∷ [] }
     {
-        Children {
-            left: 1,
-            only: Some(value),
-            properties: PropertyWalk::over(EntriesLeft::Nothing),
-            elements: Slice::new(),
+        match link {
+            None => Children::linked(Some(value)),
+            Some(_) => Children {
+                left: 2,
+                first: link,
+                properties: PropertyWalk::over(EntriesLeft::One(name, value)),
+                elements: Slice::new(),
+            },
         }
     }
 
-    /// The values of properties, of which there are so many, and then elements.
+    /// A hidden child, where there is one, the values of properties, of which there are so many, and then elements.
     pub(crate) fn of(
+        link: Option<ValueId>,
         properties: PropertyWalk<'a>,
         count: usize,
         elements: Slice<'a, u32, ValueId>,
     ) -> Children<'a>
         requires count { length properties ≡ count }
-        requires fits { count + length elements < 2 ^ 64 }
-        ensures { result ≡ map (λ p. p.value) properties.entry ++ numbers_in elements.entry }
+        requires fits { count + length elements + 1 < 2 ^ 64 }
+        ensures { result ≡ option_to_list (option_map (λ v. v.0) link) ++ (map (λ p. p.value) properties.entry ++ numbers_in elements.entry) }
     {
+        let beside = if link.is_some() { 1 } else { 0 };
         Children {
-            left: count + elements.len(),
-            only: None,
+            left: count + elements.len() + beside,
+            first: link,
             properties,
             elements,
         }
@@ -84,8 +91,8 @@ impl<'a> Children<'a> {
             return None;
         }
         self.left -= 1;
-        if let Some(value) = self.only {
-            self.only = None;
+        if let Some(value) = self.first {
+            self.first = None;
             return Some(value);
         }
         if let Some((_, value)) = self.properties.next() {

@@ -1,10 +1,11 @@
 //! What a value is and has, its creation number aside.
-ghost use Rattle.std.specs.Prelude.{◌≡◌, ◌+◌, ◌^◌, ◌<◌, ◌≤◌, IfOk, OnOk, OnErr, None, option_map, is_some};
+ghost use Rattle.std.specs.Prelude.{◌≡◌, ◌+◌, ◌^◌, ◌<◌, ◌≤◌, IfOk, IsTrue, OnOk, OnErr, None, option_map, is_some};
 ghost use Rattle.std.specs.List.{range_with_len};
+ghost use Rattle.napi_types.specs.parts.Bodies.{is_linked, child_of};
 ghost use Rattle.napi_types.specs.parts.NewValues.{array_of, error_of};
 ghost use Rattle.napi_types.specs.parts.Properties.{most_index, property_at, element_at};
-ghost use Rattle.napi_types.specs.parts.Values.{with_property, without_property, with_element};
-ghost use Rattle.value_store.specs.Contents.{value_here, properties_here, elements_here, HasValue, ChangesPlace};
+ghost use Rattle.napi_types.specs.parts.Values.{with_property, without_property, with_element, with_link};
+ghost use Rattle.value_store.specs.Contents.{value_here, body_here, properties_here, elements_here, HasValue, ChangesPlace};
 
 use crate::parts::Parts;
 use napi_types::{Body, NoMemory, TextNo, ValueId};
@@ -29,7 +30,18 @@ pub(crate) const MESSAGE: TextNo = TextNo(0);
 /// The name of an error's code.
 pub(crate) const CODE: TextNo = TextNo(1);
 
-/// What a value is, and what it has by names and by indices. Its creation number is kept beside it.
+/// The hidden child that a body names. (It stands here, so that a collection calls no other crate for it.)
+pub(crate) fn child_in(body: &Body) -> Option<ValueId>
+    ensures { option_map (λ v. v.0) result ≡ child_of body.now }
+{
+    match body {
+        Body::Linked { to, .. } => *to,
+        _ => None,
+    }
+}
+
+/// What a value is, and what it has by names and by indices. Its creation number is kept beside it. A linked value's child is named
+/// by the body.
 #[derive(Drop)]
 pub(crate) enum Contents {
     /// A value with no property and no element.
@@ -147,6 +159,18 @@ impl Contents {
                 Ok(())
             }
             Contents::Full(_, parts) => parts.set_element(alloc, at, to),
+        }
+    }
+
+    /// Sets the hidden child of a linked value. It takes no memory.
+    pub(crate) fn link(&mut self, to: ValueId)
+        requires { IsTrue (is_linked (body_here self.old)) }
+        ensures { ChangesPlace self.old self.new (with_link to.0) }
+    {
+        match self {
+            Contents::Plain(body) => *body = body.with_child(to),
+            Contents::One(_, _, body) => *body = body.with_child(to),
+            Contents::Full(body, _) => *body = body.with_child(to),
         }
     }
 }

@@ -5,7 +5,7 @@ ghost use Rattle.napi_types.specs.parts.Properties.{property_at, element_at};
 ghost use Rattle.napi_types.specs.parts.Values.{children};
 ghost use Rattle.value_store.specs.Contents.{value_of_record};
 
-use crate::contents::Contents;
+use crate::contents::{Contents, child_in};
 use crate::record::ValueRecord;
 use crate::walk::EntriesLeft;
 use crate::{Children, PropertyWalk};
@@ -40,12 +40,25 @@ impl<'a> ValueInfo<'a> {
         ValueInfo { record }
     }
 
-    /// What the value is. Constant time.
+    /// What the value is. It names no child. Constant time.
     pub fn body(&self) -> Body
         ensures { result ≡ self.now.body }
     {
         match &self.record.value {
-            Contents::Plain(body) | Contents::One(_, _, body) | Contents::Full(body, _) => { *body }
+            Contents::Plain(body) | Contents::One(_, _, body) | Contents::Full(body, _) => {
+                body.without_child()
+            }
+        }
+    }
+
+    /// The hidden child, `None` exactly where there is none. Constant time.
+    pub fn link(&self) -> Option<ValueId>
+        ensures { option_map (λ v. v.0) result ≡ self.now.link }
+    {
+        match &self.record.value {
+            Contents::Plain(body) | Contents::One(_, _, body) | Contents::Full(body, _) => {
+                child_in(body)
+            }
         }
     }
 
@@ -110,15 +123,15 @@ impl<'a> ValueInfo<'a> {
         }
     }
 
-    /// The values that the properties and elements name, one after another.
+    /// The hidden child, where there is one, and the values that the properties and elements name, one after another.
     pub(crate) fn children(&self) -> Children<'a>
         ensures same { HaveSameNumbers result (children self.now) }
         ensures many { length result ≡ length (children self.now) }
     {
         match &self.record.value {
-            Contents::Plain(_) => Children::none(),
-            Contents::One(_, to, _) => Children::one(*to),
-            Contents::Full(_, parts) => parts.children(),
+            Contents::Plain(body) => Children::linked(child_in(body)),
+            Contents::One(name, to, body) => Children::one(*name, *to, child_in(body)),
+            Contents::Full(body, parts) => parts.children(child_in(body)),
         }
     }
 }

@@ -1,5 +1,5 @@
 //! The parts of one value: its properties and its elements.
-ghost use Rattle.std.specs.Prelude.{◌≡◌, ◌^◌, ◌<◌, ◌≤◌, ◌++◌, [], length, map, filter_map, IfOk, OnOk, OnErr, option_map, slice_get, is_some, Some, None};
+ghost use Rattle.std.specs.Prelude.{◌≡◌, ◌^◌, ◌<◌, ◌≤◌, ◌++◌, [], length, map, filter_map, IfOk, OnOk, OnErr, option_map, slice_get, is_some, option_to_list, Some, None};
 ghost use Rattle.napi_types.specs.plain.Lists.{HaveSameNumbers};
 ghost use Rattle.napi_types.specs.parts.Properties.{most_index, property_at, property_set, property_removed, element_at, element_set};
 ghost use Rattle.value_store.specs.PropertyMaps.{one_property, numbers_in};
@@ -136,12 +136,13 @@ impl Parts {
         }
     }
 
-    /// The values of the properties, and then the elements that were set.
-    pub(crate) fn children(&self) -> Children<'_>
-        ensures same { HaveSameNumbers result (map (λ p. p.value) self.now.properties ++ filter_map (λ e. e) self.now.elements) }
-        ensures many { length result ≡ length (map (λ p. p.value) self.now.properties ++ filter_map (λ e. e) self.now.elements) }
+    /// A hidden child beside them, where there is one, the values of the properties, and then the elements that were set.
+    pub(crate) fn children(&self, link: Option<ValueId>) -> Children<'_>
+        ensures same { HaveSameNumbers result (map (λ p. p.value) self.now.properties ++ filter_map (λ e. e) self.now.elements ++ option_to_list (option_map (λ v. v.0) link)) }
+        ensures many { length result ≡ length (map (λ p. p.value) self.now.properties ++ filter_map (λ e. e) self.now.elements ++ option_to_list (option_map (λ v. v.0) link)) }
     {
         Children::of(
+            link,
             self.properties.walk(),
             self.properties.len(),
             self.elements_set(),

@@ -3,6 +3,7 @@ ghost use Rattle.std.specs.Prelude.{◌≡◌, ℕ, ◌+◌, ◌<◌, ◌≤◌,
 ghost use Rattle.std.specs.List.{All, IsDistinct};
 ghost use Rattle.generation_slab.specs.HeldPlaces.{value_of, EachStandsOnce};
 ghost use Rattle.napi_types.specs.plain.Lists.{has_number};
+ghost use Rattle.napi_types.specs.parts.Bodies.{NamesNoChild};
 ghost use Rattle.napi_types.specs.parts.Graph.{graph_of};
 ghost use Rattle.napi_types.specs.parts.NewValues.{list_of, thrown_of};
 ghost use Rattle.napi_types.specs.parts.Properties.{most_index, element_at, property_at};
@@ -57,6 +58,7 @@ pub(crate) fn make_list(
 ) -> Result<ValueId, NoMemory>
     requires count { length bodies.now ≤ most_index + 1 }
     requires room { made + length bodies.now + 2 < 2 ^ 48 }
+    requires alone { All NamesNoChild bodies.now }
     requires once { EachStandsOnce values.old }
     requires good { IsGood (state_of values.old made) }
     ensures listed { IfOk result (λ id. GrowsTo (state_of values.old made) (state_of values.new (made + (length bodies.now + 1))) (list_of made bodies.now) id.0) }

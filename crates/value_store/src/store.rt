@@ -2,11 +2,12 @@
 ghost use Rattle.std.specs.Prelude.{◌≡◌, ◌+◌, ◌-◌, ◌<◌, ◌≤◌, ◌^◌, ◌++◌, [], ◌∷◌, not, filter, map, length, slice_get, is_some, option_map, IfSome, IfOk, OnOk, OnErr, Some, None};
 ghost use Rattle.std.specs.List.{All};
 ghost use Rattle.napi_types.specs.plain.Lists.{has_number, HaveSameNumbers};
+ghost use Rattle.napi_types.specs.parts.Bodies.{NamesNoChild};
 ghost use Rattle.napi_types.specs.parts.Graph.{live, value_of, number_in, renamed, graph_of, IsLive, IsSoundStore};
 ghost use Rattle.napi_types.specs.parts.NewValues.{error_of, list_of, thrown_strings, thrown_of};
 ghost use Rattle.napi_types.specs.parts.Properties.{most_index, property_at, element_at};
-ghost use Rattle.napi_types.specs.parts.Values.{value_at, value_changed, fresh_value, with_property, without_property, with_element};
-ghost use Rattle.value_store.specs.StoreChanges.{properties_in, elements_in, children_in, id_at, EachStandsOnce, numbers_of, IsNew, IsStarting, IsObject, StandsAt, ChangesOnly, MakesFresh, MakesValue, MakesList, Frees, CanFree};
+ghost use Rattle.napi_types.specs.parts.Values.{value_at, value_changed, fresh_value, linked_value, with_property, without_property, with_element, with_link};
+ghost use Rattle.value_store.specs.StoreChanges.{properties_in, elements_in, children_in, id_at, EachStandsOnce, numbers_of, IsNew, IsStarting, IsObject, IsLinked, StandsAt, ChangesOnly, MakesFresh, MakesValue, MakesList, Frees, CanFree};
 
 use crate::contents::Contents;
 use crate::record::ValueRecord;
@@ -73,11 +74,13 @@ impl Store {
         self.starting[which as usize]
     }
 
-    /// Makes a value with no properties and no elements. Its number was never issued before, and is not 0.
+    /// Makes a value with no properties and no elements, of a body that names no child. Its number was never issued before, and is
+    /// not 0.
     ///
     /// Near constant time: now and then the list of values grows.
     pub fn make(&mut self, body: Body) -> Result<ValueId, NoMemory>
-        requires { self.old.made + 2 < 2 ^ 48 }
+        requires room { self.old.made + 2 < 2 ^ 48 }
+        requires alone { NamesNoChild body }
         ensures made { IfOk result (λ id. MakesFresh self.old self.new id.0 body) }
         ensures graph { OnOk result (graph_of self.new ≡ graph_of self.old ++ fresh_value (self.old.made + 1) body ∷ []) }
         ensures err { OnErr result (self.new ≡ self.old) }
@@ -85,6 +88,27 @@ impl Store {
     {
         let number = self.made + 1;
         let value = Contents::Plain(body);
+        let id = self.values.make(ValueRecord { number, value })?;
+        self.made = number;
+        Ok(ValueId(id))
+    }
+
+    /// Makes a linked value with this tag and, where one is given, this hidden child. It has no properties and no elements. Its number
+    /// was never issued before, and is not 0.
+    ///
+    /// Near constant time: now and then the list of values grows.
+    pub fn make_linked(&mut self, tag: u8, to: Option<ValueId>) -> Result<ValueId, NoMemory>
+        requires room { self.old.made + 2 < 2 ^ 48 }
+        requires child { IfSome to (λ c. IsLive self.old c.0) }
+        ensures made { let linked = linked_value (self.old.made + 1) tag (option_map (λ c. c.0) to) in
+            IfOk result (λ id. MakesValue self.old self.new id.0 linked) }
+        ensures graph { let linked = linked_value (self.old.made + 1) tag (option_map (λ c. number_in self.old c.0) to) in
+            OnOk result (graph_of self.new ≡ graph_of self.old ++ linked ∷ []) }
+        ensures err { OnErr result (self.new ≡ self.old) }
+        ensures sound { IsSoundStore self.old }
+    {
+        let number = self.made + 1;
+        let value = Contents::Plain(Body::Linked { tag, to });
         let id = self.values.make(ValueRecord { number, value })?;
         self.made = number;
         Ok(ValueId(id))
@@ -123,6 +147,7 @@ impl Store {
     pub fn make_list(&mut self, bodies: &[Body]) -> Result<ValueId, NoMemory>
         requires count { length bodies.now ≤ most_index + 1 }
         requires room { self.old.made + length bodies.now + 2 < 2 ^ 48 }
+        requires alone { All NamesNoChild bodies.now }
         ensures listed { IfOk result (λ id. MakesList self.old self.new id.0 (length bodies.now)) }
         ensures graph { OnOk result (graph_of self.new ≡ graph_of self.old ++ list_of self.old.made bodies.now) }
         ensures err { OnErr result (self.new ≡ self.old) }
@@ -209,8 +234,19 @@ impl Store {
         record.value.set_element(self.alloc, at, to)
     }
 
-    /// The children of a value, one after another: first the values of its properties, then its elements. A hole is no child.
-    /// Constant time.
+    /// Sets the hidden child of a linked value. Whatever else there is stays. Constant time, and it takes no memory.
+    pub fn link(&mut self, id: ValueId, to: ValueId)
+        requires linked { IsLinked self.old id.0 }
+        requires value { IsLive self.old to.0 }
+        ensures set { ChangesOnly self.old self.new id.0 (with_link to.0) }
+        ensures graph { graph_of self.new ≡ value_changed (number_in self.old id.0) (with_link (number_in self.old to.0)) (graph_of self.old) }
+    {
+        let linked = self.values.value_mut(id.0);
+        linked.value.link(to)
+    }
+
+    /// The children of a value, one after another: first its hidden child, where there is one, then the values of its properties, then
+    /// its elements. A hole is no child. Constant time.
     pub fn children(&self, id: ValueId) -> Children<'_>
         ensures same { HaveSameNumbers result (children_in self.now id.0) }
         ensures many { length result ≡ length (children_in self.now id.0) }
@@ -218,7 +254,7 @@ impl Store {
     {
         match self.get(id) {
             Some(value) => value.children(),
-            None => Children::none(),
+            None => Children::linked(None),
         }
     }
 

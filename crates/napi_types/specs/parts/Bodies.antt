@@ -1,5 +1,5 @@
 -- What a value is, beside its properties and elements, and what a call may expect of it.
-use Rattle.std.specs.Prelude.{ℕ, ◌==◌, ℤ, pos, int_le, Bool, true, false, not, ◌&&◌}
+use Rattle.std.specs.Prelude.{◌≡◌, ℕ, ◌==◌, ℤ, pos, int_le, Bool, true, false, not, ◌&&◌, Option, None, option_map}
 use Rattle.napi_types.specs.declared.body.Body.{Body}
 use Rattle.napi_types.specs.declared.ids.TextNo.{TextNo}
 use Rattle.napi_types.specs.declared.status.Kind.{Kind}
@@ -18,11 +18,13 @@ kind_of (body.Symbol t) = kind.Symbol
 kind_of (body.Object array error) = kind.Object
 kind_of (body.Function addon entry payload) = kind.Function
 kind_of (body.External payload) = kind.External
+kind_of (body.Linked tag to) = kind.Object
 
--- objects and functions have properties and elements; an array and an error are objects
+-- objects and functions have properties and elements; an array, an error and a linked value are objects
 abbrev pub is_object_like : Body → Bool
 is_object_like (body.Object array error) = true
 is_object_like (body.Function addon entry payload) = true
+is_object_like (body.Linked tag to) = true
 is_object_like _ = false
 
 -- the values that a call may expect
@@ -54,10 +56,29 @@ abbrev pub is_external : Body → Bool
 is_external (body.External payload) = true
 is_external _ = false
 
+-- a linked value has at most one hidden child
+abbrev pub is_linked : Body → Bool
+is_linked (body.Linked tag to) = true
+is_linked _ = false
+
+-- the child that a body names, by its number: that of a value that is to be made. The body of a value that is there names none, its child stands beside the body
+abbrev pub child_of : Body → Option ℕ
+child_of (body.Linked tag to) = option_map (λ v. v.0) to
+child_of _ = None
+
+abbrev pub NamesNoChild : Body → Type 0
+NamesNoChild b = child_of b ≡ None
+
+-- the body that names no child
+abbrev pub without_child : Body → Body
+without_child (body.Linked tag to) = body.Linked tag None
+without_child b = b
+
 -- what a reference may be to
 abbrev pub is_referable : Body → Bool
 is_referable (body.Object array error) = true
 is_referable (body.Function addon entry payload) = true
+is_referable (body.Linked tag to) = true
 is_referable (body.External payload) = true
 is_referable (body.Symbol t) = true
 is_referable _ = false
@@ -66,6 +87,7 @@ is_referable _ = false
 abbrev pub is_taggable : Body → Bool
 is_taggable (body.Object array error) = true
 is_taggable (body.Function addon entry payload) = true
+is_taggable (body.Linked tag to) = true
 is_taggable (body.External payload) = true
 is_taggable _ = false
 

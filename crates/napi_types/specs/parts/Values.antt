@@ -1,5 +1,5 @@
 -- The value graph: a finite map from creation numbers to values.
-use Rattle.std.specs.Prelude.{ℕ, ◌==◌, true, false, cond, List, [], ◌∷◌, ◌++◌, map, filter_map, Option, None, option_map, not, filter}
+use Rattle.std.specs.Prelude.{ℕ, ◌==◌, true, false, cond, List, [], ◌∷◌, ◌++◌, map, filter_map, Option, Some, None, option_map, not, filter}
 use Rattle.std.specs.Option.{unwrap_or, option_to_list}
 use Rattle.napi_types.specs.declared.body.Body.{Body}
 use Rattle.napi_types.specs.declared.body.Body.TheVariants as body
@@ -7,7 +7,7 @@ use Rattle.napi_types.specs.plain.Lists.{found, has_number}
 use Rattle.napi_types.specs.parts.Properties.{Property, property_set, property_removed, element_set}
 
 -- a value: its creation number, what it is, its properties in the order in which their names were first set, and its elements, each a value's number or a hole.
--- Its link is one child more, by its number: a hidden one, which no property and no element names. Nobody sets a link yet
+-- Its link is one child more, by its number: a hidden one, which no property and no element names. No call of an addon sets a link
 pub record Value : Type 0 where
   pub number : ℕ
   pub body : Body
@@ -18,6 +18,10 @@ pub record Value : Type 0 where
 -- a value as it is made: its number and what it is, with no properties, no elements and no link
 abbrev pub fresh_value : ℕ → Body → Value
 fresh_value n b = record { number = n; body = b; properties = []; elements = []; link = None }
+
+-- a linked value as it is made: its child stands beside the body, which names none
+abbrev pub linked_value : ℕ → ℕ → Option ℕ → Value
+linked_value n tag to = record (fresh_value n (body.Linked tag None)) { link = to }
 
 -- undefined, null, true, false and the global object have the numbers 1 to 5
 abbrev pub undefined_value : ℕ
@@ -70,6 +74,10 @@ without_property name v = record v { properties = property_removed name v.proper
 -- the value with an element set
 abbrev pub with_element : ℕ → ℕ → Value → Value
 with_element at to v = record v { elements = element_set at to v.elements }
+
+-- the value with another link
+abbrev pub with_link : ℕ → Value → Value
+with_link to v = record v { link = Some to }
 
 -- the values with the one of a number changed so
 abbrev pub value_changed : ℕ → (Value → Value) → List Value → List Value

@@ -1,6 +1,6 @@
 //! Many tickets, hooks, references and wraps, and many finalizers of one value: that each is accepted where there is memory, also after
 //! 65,535 others, and that a long chain of tickets, or of lines that were seen, is let go and falls due within the stack. So is a long chain
-//! of objects kept and freed. No clause says so. Three references whose place is used again are tried too.
+//! of objects, and of hidden children, kept and freed. No clause says so. Three references whose place is used again are tried too.
 ghost use Rattle.std.specs.Prelude.{◌≡◌, ◌+◌, ◌<◌, ◌≤◌, ◌^◌, [], length};
 ghost use Rattle.std.specs.List.{All};
 ghost use Rattle.napi_types.specs.parts.Attachments.{no_attachments};
@@ -57,22 +57,52 @@ fn register_many(rt: &impl Abort, book: &mut Book)
     }
 }
 
-/// A hook is added, whose argument is the number of those before it.
+/// A plain hook is added, whose argument is the number of those before it.
 fn add_hook(rt: &impl Abort, hooks: &mut Hooks, argument: u64)
     requires few { argument < 2 ^ 20 }
-    requires before { All (λ h. h.ticket ≤ argument) hooks.old }
-    ensures { All (λ h. h.ticket ≤ argument + 1) hooks.new }
+    requires before { All (λ h. h.ticket ≤ argument) hooks.old.hooks }
+    requires plain { hooks.old.async_hooks ≡ [] }
+    ensures before { All (λ h. h.ticket ≤ argument + 1) hooks.new.hooks }
+    ensures plain { hooks.new.async_hooks ≡ [] }
 {
     assert!(rt; hooks.find(1, 2, argument).is_none());
     ample(rt, hooks.add(1, 2, argument, Ticket(argument + 1)));
 }
 
+/// An asynchronous hook is added behind so many hooks.
+fn add_async_hook(rt: &impl Abort, hooks: &mut Hooks, before: u64)
+    requires few { before < 2 ^ 20 }
+    requires before { All (λ h. h.ticket ≤ before) hooks.old.hooks }
+    requires others { All (λ h. h.ticket ≤ before) hooks.old.async_hooks }
+    requires count { length hooks.old.async_hooks ≤ before }
+    ensures before { All (λ h. h.ticket ≤ before + 1) hooks.new.hooks }
+    ensures others { All (λ h. h.ticket ≤ before + 1) hooks.new.async_hooks }
+    ensures count { length hooks.new.async_hooks ≤ before + 1 }
+{
+    ample(rt, hooks.add_async(1, 2, 3, Ticket(before + 1)));
+}
+
+/// As many plain hooks are added, and then as many asynchronous ones.
 fn add_hooks(rt: &impl Abort, hooks: &mut Hooks)
-    requires { hooks.old ≡ [] }
+    requires before { hooks.old.hooks ≡ [] }
+    requires plain { hooks.old.async_hooks ≡ [] }
 {
     for argument in 0..MANY {
         add_hook(rt, hooks, argument);
     }
+    for number in 0..MANY {
+        add_async_hook(rt, hooks, MANY + number);
+    }
+}
+
+/// All hooks begin. How many asynchronous ones wait then, and how many once those are abandoned.
+fn begin_hooks(hooks: &mut Hooks) -> [u64; 2] {
+    for _number in 0..2 * MANY {
+        let _ticket = hooks.take_last();
+    }
+    let waiting = hooks.waiting();
+    hooks.abandon();
+    [waiting, hooks.waiting()]
 }
 
 fn make_reference(rt: &impl Abort, references: &mut Refs)
@@ -100,8 +130,9 @@ fn wrap_many(rt: &impl Abort, wraps: &mut Wraps) {
     }
 }
 
-/// What comes of many: the next ticket, that of the last hook, how many references stand, and the payload of the last wrap.
-type Found = (Ticket, Option<Ticket>, usize, Option<u64>);
+/// What comes of many: the next ticket, that of the last hook, how many hooks wait before and after they are abandoned, how many references
+/// stand, and the payload of the last wrap.
+type Found = (Ticket, Option<Ticket>, [u64; 2], usize, Option<u64>);
 
 fn many(rt: &impl Abort, alloc: Global) -> Found {
     let mut book = ample(rt, Book::new(alloc));
@@ -115,6 +146,7 @@ fn many(rt: &impl Abort, alloc: Global) -> Found {
     (
         book.next(),
         hooks.last_added(),
+        begin_hooks(&mut hooks),
         references.rows(),
         wraps.wrapped(ValueId(MANY - 1)),
     )
@@ -124,7 +156,8 @@ fn many(rt: &impl Abort, alloc: Global) -> Found {
 fn many_are_accepted(rt: HostRuntime) {
     let want = (
         Ticket(MANY + 1),
-        Some(Ticket(MANY)),
+        Some(Ticket(2 * MANY)),
+        [MANY, 0],
         MANY as usize,
         Some(MANY - 1),
     );
@@ -261,6 +294,26 @@ fn chain(rt: &impl Abort, store: &mut Store) -> ValueId
     last
 }
 
+/// A linked value is made that has a value as its hidden child.
+fn hide_under_new(rt: &impl Abort, store: &mut Store, to: ValueId) -> ValueId
+    requires { store.old.made < 2 ^ 20 }
+    ensures { store.new.made ≡ store.old.made + 1 }
+{
+    assert!(rt; store.get(to).is_some());
+    ample(rt, store.make_linked(1, Some(to)))
+}
+
+/// Linked values are made, of which each has the one made just before it as its hidden child. The last of them.
+fn hidden_chain(rt: &impl Abort, store: &mut Store) -> ValueId
+    requires { IsNew store.old }
+{
+    let mut last = store.starting(0);
+    for _number in 0..OBJECTS {
+        last = hide_under_new(rt, store, last);
+    }
+    last
+}
+
 /// The starting values.
 fn starting(rt: &impl Abort, alloc: Global, store: &Store) -> Vec<ValueId>
     ensures live { All (IsLive store.now) (numbers_of result.items) }
@@ -287,6 +340,17 @@ fn collected(rt: &impl Abort, alloc: Global, store: &mut Store, others: &[ValueI
 fn a_chain_is_kept_by_its_last_object(rt: HostRuntime) {
     let mut store = ample(&rt, Store::new(rt.alloc()));
     let last = chain(&rt, &mut store);
+    let found = (
+        collected(&rt, rt.alloc(), &mut store, &[last]),
+        collected(&rt, rt.alloc(), &mut store, &[]),
+    );
+    assert_eq!(rt; found, (0, OBJECTS));
+}
+
+#[test]
+fn a_chain_of_hidden_children_is_kept_by_its_last_value(rt: HostRuntime) {
+    let mut store = ample(&rt, Store::new(rt.alloc()));
+    let last = hidden_chain(&rt, &mut store);
     let found = (
         collected(&rt, rt.alloc(), &mut store, &[last]),
         collected(&rt, rt.alloc(), &mut store, &[]),

@@ -1,6 +1,6 @@
 //! In which order a store has its values, and the children of one. No clause tells it.
 ghost use Rattle.std.specs.Prelude.{◌≡◌, ◌+◌, ◌<◌, ◌≤◌, ◌^◌};
-ghost use Rattle.napi_types.specs.parts.Bodies.{is_object_like as has_properties};
+ghost use Rattle.napi_types.specs.parts.Bodies.{NamesNoChild, is_object_like as has_properties, is_linked as has_link};
 ghost use Rattle.napi_types.specs.parts.Properties.{most_index};
 ghost use Rattle.value_store.specs.StoreChanges.{IsNew};
 
@@ -85,6 +85,7 @@ fn values_stand_in_the_order_of_making(rt: HostRuntime) {
 fn make_and_free(rt: &impl Abort, store: &mut Store, body: Body) -> ValueId
     requires started { 5 ≤ store.old.made }
     requires room { store.old.made + 2 < 2 ^ 48 }
+    requires alone { NamesNoChild body }
     ensures { store.new.made ≡ store.old.made + 1 }
 {
     let id = ample(rt, store.make(body));
@@ -122,7 +123,7 @@ fn is_object_like(body: Body) -> bool
     ensures { result ≡ has_properties body }
 {
     match body {
-        Body::Object { .. } | Body::Function { .. } => true,
+        Body::Object { .. } | Body::Linked { .. } | Body::Function { .. } => true,
         _ => false,
     }
 }
@@ -159,6 +160,36 @@ fn parent(rt: &impl Abort, store: &mut Store) -> ValueId
     object
 }
 
+fn is_linked(body: Body) -> bool
+    ensures { result ≡ has_link body }
+{
+    matches!(body, Body::Linked { .. })
+}
+
+/// Sets a hidden child, where the store allows it.
+fn hide(rt: &impl Abort, store: &mut Store, linked: ValueId, to: ValueId)
+    ensures { store.new.made ≡ store.old.made }
+{
+    let settable = match store.get(linked) {
+        Some(value) => is_linked(value.body()),
+        None => false,
+    };
+    assert!(rt; settable && store.get(to).is_some());
+    store.link(linked, to);
+}
+
+/// A linked value with a property and an element, whose hidden child is set twice.
+fn linked_parent(rt: &impl Abort, store: &mut Store) -> ValueId
+    requires { IsNew store.old }
+{
+    let linked = ample(rt, store.make_linked(1, None));
+    hide(rt, store, linked, store.starting(3));
+    set(rt, store, linked, 9, store.starting(4));
+    set_at(rt, store, linked, 7, store.starting(1));
+    hide(rt, store, linked, store.starting(2));
+    linked
+}
+
 /// The first five children.
 fn children(store: &Store, id: ValueId) -> [Option<ValueId>; 5] {
     let mut children = store.children(id);
@@ -183,6 +214,23 @@ fn children_stand_in_order(rt: HostRuntime) {
     let mut store = ample(&rt, Store::new(rt.alloc()));
     let object = parent(&rt, &mut store);
     assert_eq!(rt; children(&store, object), CHILDREN);
+}
+
+#[test]
+fn a_hidden_child_is_the_first(rt: HostRuntime) {
+    let mut store = ample(&rt, Store::new(rt.alloc()));
+    let linked = linked_parent(&rt, &mut store);
+    let found = children(&store, linked);
+    assert_eq!(rt;
+        found,
+        [
+            Some(ValueId(3)),
+            Some(ValueId(5)),
+            Some(ValueId(2)),
+            None,
+            None
+        ]
+    );
 }
 
 /// An object with twelve properties, whose names are 10 to 21, in this order.

@@ -26,7 +26,7 @@ loop-at-init c =
 
 pub loop-at-preserved : goal.loop-at-preserved
 loop-at-preserved c =
-    list-turn c.args.values.now c.args.made c.args.bodies.now c.loop-at.values c.put-id.new.values c.loop-at.array c.set_again.new.array c.loop-at.at (c.args.made + c.loop-at.at + 1) c.put-id.result.0 _ c.loop-at.invariant
+    list-turn c.args.values.now c.args.made c.args.bodies.now c.loop-at.values c.put-id.new.values c.loop-at.array c.set_again.new.array c.loop-at.at (c.args.made + c.loop-at.at + 1) c.put-id.result.0 _ c.requires.alone c.loop-at.invariant
     c.loop-at-test.true refl c.put-id.ensures.added c.put-id.ensures.room c.set_again.ensures
 
 pub returns-clause-listed : goal.returns-clause-listed
