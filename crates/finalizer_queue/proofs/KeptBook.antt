@@ -77,6 +77,15 @@ kept-beside rows spare row_places count places ts kept n x y row as_due waits =
     let none : ◌≡◌ {A = ℕ} (cond (is_registered (row_state y.state)) 1 0) 0 = rw waits refl in
     kept-set rows spare row_places count places count places ts ts kept n x y row kept.order (λ m. same-times m n _ ts is) (omega (arith, none)) (omega arith)
 
+-- a row keeps its state
+pub kept-same : (rows : List TicketRow) (spare row_places count places : ℕ) (ts : List (Reverse ℕ)) → IsKeptBook rows spare row_places ts count places
+    → (n : ℕ) (x y : TicketRow) → IsTicketRow rows n x → row_state y.state ≡ row_state x.state → IsKeptBook (set rows (n - 1) y) spare row_places ts count places
+kept-same rows spare row_places count places ts kept n x y row same =
+    let is : times_in_heap n ts ≡ cond (is_due (row_state y.state)) 1 0 =
+    kept.once n ∙ ap (λ b. cond b 1 0) (is_at-row is_due rows n x row ∙ ap is_due (sym same)) in
+    let waits : ◌≡◌ {A = ℕ} (cond (is_registered (row_state y.state)) 1 0) (cond (is_registered (row_state x.state)) 1 0) = ap (λ s. cond (is_registered s) 1 0) same in
+    kept-set rows spare row_places count places count places ts ts kept n x y row kept.order (λ m. same-times m n _ ts is) (omega (arith, waits)) (omega arith)
+
 -- the state of a row that was moved
 state-moved : (move : TicketState → TicketState) (x y : TicketRow) → row_registration y ≡ moved move (row_registration x) → row_state y.state ≡ move (row_state x.state)
 state-moved move x y is = ap (λ r. r.state) is

@@ -1,7 +1,7 @@
 //! The tickets, each with what was registered under it.
 ghost use Rattle.std.specs.Prelude.{◌≡◌, ◌+◌, ◌<◌, ◌≤◌, ◌^◌, ◌++◌, ◌∷◌, ◌↔◌, [], length, true, None, IfSome, IfOk, OnOk, OnErr};
 ghost use Rattle.std.specs.Option.{is_some};
-ghost use Rattle.napi_types.specs.parts.Book.{is_registered, is_begun, is_at, registration_at, lowest_due, due_info, made_due, made_withdrawn, made_ended, made_due_and_begun, moved_at, all_due};
+ghost use Rattle.napi_types.specs.parts.Book.{is_registered, is_begun, is_at, registration_at, lowest_due, due_info, made_due, made_withdrawn, made_ended, made_due_and_begun, moved_at, all_due, changed_at, with_hint};
 ghost use Rattle.finalizer_queue.specs.KeptBook.{ticket_number, LowestBegins};
 ghost use Rattle.finalizer_queue.specs.TicketRows.{registration_of};
 
@@ -115,6 +115,17 @@ impl Book {
         ensures spare { self.old.spare ≤ self.new.spare }
     {
         rows::withdraw(&mut self.rows[(ticket.0 - 1) as usize]);
+    }
+
+    /// Gives a ticket that is registered another hint, which its frame is then given. Nothing else of the book changes.
+    ///
+    /// Constant time. It takes no memory.
+    pub fn set_hint(&mut self, ticket: Ticket, hint: u64)
+        requires { is_at is_registered self.old.book ticket.0 ≡ true }
+        ensures hint { self.new.book ≡ changed_at (with_hint hint) ticket.0 self.old.book }
+        ensures spare { self.old.spare ≤ self.new.spare }
+    {
+        rows::set_hint(&mut self.rows[(ticket.0 - 1) as usize], hint);
     }
 
     /// A ticket that was given falls due. Where it is not registered nothing changes.

@@ -1,6 +1,6 @@
 //! What stands under a ticket, read and changed by number.
 ghost use Rattle.std.specs.Prelude.{◌≡◌, ◌||◌, true};
-ghost use Rattle.napi_types.specs.parts.Book.{is_registered, is_due, is_begun, is_at, due_info, made_due, made_withdrawn, made_due_and_begun, made_ended, moved};
+ghost use Rattle.napi_types.specs.parts.Book.{is_registered, is_due, is_begun, is_at, due_info, made_due, made_withdrawn, made_due_and_begun, made_ended, moved, with_hint};
 ghost use Rattle.finalizer_queue.specs.TicketRows.{registration_of, row_registration, book_of};
 
 use napi_types::{Cause, Due, DueInfo, Duty, Slip, Status, Ticket};
@@ -62,6 +62,13 @@ pub(crate) fn fall_due(row: &mut TicketRow) -> bool
     };
     row.state = state;
     has_fallen
+}
+
+/// A row has another hint.
+pub(crate) fn set_hint(row: &mut TicketRow, hint: u64)
+    ensures { row_registration row.new ≡ with_hint hint (row_registration row.old) }
+{
+    row.duty.hint = hint;
 }
 
 /// A row that is registered is withdrawn, and gives its memory back.

@@ -1,4 +1,6 @@
--- The parts, each by itself: values, scopes and the heap with its calls; frames, references, attachments, the book, hooks; works and thread-safe functions.
+-- The parts, each by itself: values, scopes and the heap with its calls; frames, references, attachments, the book, hooks and promises; works and
+-- thread-safe functions.
+pub mod AsyncHooks
 pub mod Attachments
 pub mod Bodies
 pub mod Book
@@ -20,6 +22,7 @@ pub mod Kinds
 pub mod NamedNumbers
 pub mod NewValues
 pub mod Pool
+pub mod Promises
 pub mod Properties
 pub mod PropertyCalls
 pub mod Reach

@@ -22,7 +22,7 @@ use Rattle.napi_types.specs.hub.Hub.{Hub, Before, Live, LoopEnded, Drained, stag
 use Rattle.napi_types.specs.hub.HubMoves.{without_duty}
 use Rattle.napi_types.specs.hub.ThreadSteps.{is_thread_there, is_gone_on}
 use Rattle.napi_types.specs.hub.WorkerSteps.{is_worker_there}
-use Rattle.napi_types.proofs.hub.HubCases.{HubCase, hub-case, asks, creates_work, deletes_work, cancels_work, queues_work, creates_function, alters, goes, ends_loop, drains, comes_to_finals, delivers, closes, finishes, ends, thread_ends, worker_ends, starts, finishes_work}
+use Rattle.napi_types.proofs.hub.HubCases.{HubCase, hub-case, asks, creates_work, deletes_work, cancels_work, queues_work, creates_function, alters, goes, ends_loop, abandons, drains, comes_to_finals, delivers, closes, finishes, ends, thread_ends, worker_ends, starts, finishes_work}
 use Rattle.napi_types.proofs.hub.WorkerTurns.{is_event_of_others}
 use Rattle.shared_hub.specs.HubStates.{HubSeen, AddsEntry}
 use Rattle.shared_hub.specs.SharedTries.{thread_entry}
@@ -78,6 +78,7 @@ case-keeps h x told _ (creates_function f entry maximum count finalizer context 
 case-keeps h x told _ (alters c n f change is there a) other = kept refl refl refl refl refl
 case-keeps h x told _ (goes is may) other = kept refl refl refl refl refl
 case-keeps h x told _ (ends_loop is may) other = kept refl refl refl refl refl
+case-keeps h x told _ (abandons is may still) other = kept refl refl refl refl refl
 case-keeps h x told _ (drains is may) other = kept refl refl refl refl refl
 case-keeps h x told _ (comes_to_finals is may) other = kept refl refl refl refl refl
 case-keeps h x told _ (delivers d is move alone) other = let k = duty-keeps h d.duty in kept k.threads k.workers k.ended_threads k.ended_workers k.executions

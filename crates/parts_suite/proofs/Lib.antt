@@ -1,2 +1,3 @@
 pub mod FewItems
 pub mod HubsGoOn
+pub mod ManyPromises

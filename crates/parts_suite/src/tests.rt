@@ -9,6 +9,7 @@ mod functions;
 mod hub;
 mod jobs;
 mod many;
+mod promises;
 mod registered;
 mod values;
 mod works;

@@ -132,6 +132,11 @@ due_where test book = changed_where (moved made_due) test book
 abbrev pub all_due : Book → Book
 all_due book = due_where (λ n. true) book
 
+-- A HINT
+-- another hint stands in the place of the one that was registered, and nothing else changes
+abbrev pub with_hint : ℕ → Registration → Registration
+with_hint hint r = record r { hint = hint }
+
 -- WHAT A TICKET TELLS
 -- the duty of a ticket
 abbrev pub ticket_duty : ℕ → Duty

@@ -35,7 +35,7 @@ fn opened<N: Naming>(
     history: u32,
 ) -> HubState<ScriptJob, N>
     requires named { N.numbers ≡ record { threads = others; workers = others; limits = record { journal = 0; history = history } } }
-    requires room { 4 + others + others ≤ history }
+    requires room { 5 + others + others ≤ history }
     requires most { history ≤ most_entries }
     ensures { result ≡ hub_seen N.numbers [] }
 {
@@ -98,7 +98,7 @@ fn new_work<J: Job, N: Naming>(state: &mut HubState<J, N>) -> WorkId
 /// A work is created and queued, and another is created: what each comes to, and how many entries the history has then.
 fn queue_one<N: Naming>(rt: &impl Abort, alloc: Global, history: u32) -> ([Status; 3], usize)
     requires named { N.numbers ≡ record { threads = 1; workers = 1; limits = record { journal = 0; history = history } } }
-    requires room { 6 ≤ history }
+    requires room { 7 ≤ history }
     requires most { history ≤ most_entries }
 {
     let mut state = opened::<N>(rt, alloc, 1, history);
@@ -130,7 +130,7 @@ fn queue_one<N: Naming>(rt: &impl Abort, alloc: Global, history: u32) -> ([Statu
 
 /// The numbers are named here.
 fn queue_one_in(rt: &impl Abort, alloc: Global, history: u32) -> ([Status; 3], usize)
-    requires room { 6 ≤ history }
+    requires room { 7 ≤ history }
     requires most { history ≤ most_entries }
 {
     queue_one::<Brand>(rt, alloc, history)
@@ -140,10 +140,10 @@ fn queue_one_in(rt: &impl Abort, alloc: Global, history: u32) -> ([Status; 3], u
 fn a_queued_work_needs_five_places(rt: HostRuntime) {
     const DONE: Status = Status::Ok;
     const FULL: Status = Status::TraceFull;
+    let thirteen = queue_one_in(&rt, rt.alloc(), 13);
     let twelve = queue_one_in(&rt, rt.alloc(), 12);
-    let eleven = queue_one_in(&rt, rt.alloc(), 11);
     assert_eq!(rt;
-        (twelve, eleven),
+        (thirteen, twelve),
         (([DONE, DONE, FULL], 2), ([DONE, FULL, DONE], 2))
     );
 }
