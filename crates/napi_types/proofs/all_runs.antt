@@ -7,6 +7,9 @@ pub mod FrameAddons
 pub mod FunctionAccounts
 pub mod Goings
 pub mod HistoryRooms
+pub mod AbandonedHooks
+pub mod SettledHooks
+pub mod HookRows
 pub mod HubAccounts
 pub mod ItemOrders
 pub mod Joining

@@ -1,5 +1,6 @@
 -- On the environment: what its calls and the ends of its frames keep.
 pub mod AnswersKeep
+pub mod AsyncHooked
 pub mod Cases
 pub mod Changed
 pub mod Effects

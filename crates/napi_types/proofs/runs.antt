@@ -7,6 +7,7 @@ pub mod HubsOfRuns
 pub mod InPlace
 pub mod LoopEnds
 pub mod Nested
+pub mod NewNumbers
 pub mod Runs
 pub mod SharedSteps
 pub mod StandingDuties

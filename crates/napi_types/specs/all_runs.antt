@@ -1,4 +1,5 @@
 -- What holds of all runs.
+pub mod AbandonedHooks
 pub mod AcceptedCalls
 pub mod Cancels
 pub mod CollectionLaw

@@ -4,7 +4,7 @@ ghost use Rattle.napi_types.specs.plain.CallFacts.{AreFactsOf};
 ghost use Rattle.napi_types.specs.plain.CallKinds.{is_entering_group, is_value_group};
 ghost use Rattle.napi_types.specs.plain.Guards.{is_shared_group};
 
-use crate::{HandleId, RefId, ScopeId, TextNo, TsfnId, WorkId};
+use crate::{AsyncHookId, HandleId, RefId, ScopeId, TextNo, TsfnId, WorkId};
 
 /// What an asynchronous work computes.
 #[derive(Clone, Copy, Debug, PartialEq, Eq)]
@@ -123,6 +123,9 @@ pub enum Call {
     /// The hook's entry and its argument.
     AddEnvCleanupHook(u32, u64),
     RemoveEnvCleanupHook(u32, u64),
+    /// The hook's entry and its argument.
+    AddAsyncCleanupHook(u32, u64),
+    RemoveAsyncCleanupHook(AsyncHookId),
 
     // Asynchronous works.
     /// The job, the completion's entry and the payload.
@@ -276,8 +279,12 @@ impl Call {
             Call::SetInstanceData(_, None, _) | Call::GetInstanceData => {
                 (CallGroup::OnInstances, false, false, 1)
             }
-            Call::AddEnvCleanupHook(..) => (CallGroup::OnHooks, false, true, 3),
-            Call::RemoveEnvCleanupHook(..) => (CallGroup::OnHooks, false, false, 1),
+            Call::AddEnvCleanupHook(..) | Call::AddAsyncCleanupHook(..) => {
+                (CallGroup::OnHooks, false, true, 3)
+            }
+            Call::RemoveEnvCleanupHook(..) | Call::RemoveAsyncCleanupHook(_) => {
+                (CallGroup::OnHooks, false, false, 1)
+            }
             Call::CreateAsyncWork(..) => (CallGroup::OnWorks, false, true, 1),
             Call::DeleteAsyncWork(_) | Call::CancelAsyncWork(_) => {
                 (CallGroup::OnWorks, false, false, 1)

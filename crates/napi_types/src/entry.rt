@@ -2,7 +2,9 @@
 ghost use Rattle.std.specs.Prelude.{◌≡◌};
 ghost use Rattle.napi_types.specs.plain.Replies.{plain as plain_reply};
 
-use crate::{Call, HandleId, Kind, RefId, ScopeId, Status, TextNo, Ticket, TsfnId, WorkId};
+use crate::{
+    AsyncHookId, Call, HandleId, Kind, RefId, ScopeId, Status, TextNo, Ticket, TsfnId, WorkId,
+};
 use std::alloc::{AllocError, AllocFailed};
 use std::error::Error;
 use std::fmt;
@@ -46,6 +48,7 @@ pub enum HostStep {
     End,
     Go,
     LoopEnd,
+    Abandon,
     CloseTsfn,
     FinishTsfn,
     Drain,
@@ -87,6 +90,7 @@ pub enum Out {
     NoHandle,
     Scope(ScopeId),
     Ref(RefId),
+    AsyncHook(AsyncHookId),
     Work(WorkId),
     Function(TsfnId),
     Signed(i64),

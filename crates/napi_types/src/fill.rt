@@ -2,7 +2,9 @@
 ghost use Rattle.std.specs.Prelude.{◌≡◌, option_map, option_to_list};
 ghost use Rattle.napi_types.specs.scripts.Registers.{register_at as number_in_register, handle_in, arguments_in, operation_ask, result_registers, register_values};
 
-use crate::{Args, Ask, Call, HandleId, Op, Out, RefId, Regs, ScopeId, TsfnId, WorkId};
+use crate::{
+    Args, Ask, AsyncHookId, Call, HandleId, Op, Out, RefId, Regs, ScopeId, TsfnId, WorkId,
+};
 
 /// The number in a register, 0 past the last one.
 fn register_at(regs: &[u64; 32], at: u8) -> u64
@@ -186,6 +188,12 @@ impl Op {
             Op::RemoveEnvCleanupHook(entry, argument) => Call::RemoveEnvCleanupHook(
                 entry, argument,
             ),
+            Op::AddAsyncCleanupHook(entry, argument, _) => Call::AddAsyncCleanupHook(
+                entry, argument,
+            ),
+            Op::RemoveAsyncCleanupHook(hook) => Call::RemoveAsyncCleanupHook(AsyncHookId(
+                register_at(regs, hook),
+            )),
             Op::CreateAsyncWork(job, entry, payload, _) => Call::CreateAsyncWork(
                 job, entry, payload,
             ),
@@ -286,6 +294,7 @@ impl Op {
             | Op::GetAndClearLastException(result)
             | Op::GetLastErrorInfo(result)
             | Op::GetInstanceData(result)
+            | Op::AddAsyncCleanupHook(_, _, result)
             | Op::CreateAsyncWork(_, _, _, result)
             | Op::CreateThreadsafeFunction(_, _, _, _, _, _, result)
             | Op::GetThreadsafeFunctionContext(_, result)
@@ -303,6 +312,7 @@ impl Op {
             | Op::SetInstanceData(..)
             | Op::AddEnvCleanupHook(..)
             | Op::RemoveEnvCleanupHook(..)
+            | Op::RemoveAsyncCleanupHook(_)
             | Op::DeleteAsyncWork(_)
             | Op::CancelAsyncWork(_)
             | Op::QueueAsyncWork(_)
@@ -333,6 +343,7 @@ impl Out {
             Out::NoHandle => Some(0),
             Out::Scope(ScopeId(number)) => Some(number),
             Out::Ref(reference) => Some(reference.0),
+            Out::AsyncHook(hook) => Some(hook.0),
             Out::Work(work) => Some(work.0),
             Out::Function(function) => Some(function.0),
             Out::Signed(number) => Some(number.cast_unsigned()),

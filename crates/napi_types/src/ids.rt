@@ -21,6 +21,14 @@ pub enum ScopeKind {
 #[derive(Clone, Copy, Debug, PartialEq, Eq)]
 pub struct RefId(pub u64);
 
+/// An asynchronous cleanup hook, the manual's `napi_async_cleanup_hook_handle`: any number that was never issued before.
+#[derive(Clone, Copy, Debug, PartialEq, Eq)]
+pub struct AsyncHookId(pub u64);
+
+/// A deferred, the manual's `napi_deferred`: any number that was never issued before.
+#[derive(Clone, Copy, Debug, PartialEq, Eq)]
+pub struct DeferredId(pub u64);
+
 /// An asynchronous work, the manual's `napi_async_work`: any number that was never issued before.
 #[derive(Clone, Copy, Debug, PartialEq, Eq)]
 pub struct WorkId(pub u64);

@@ -1,4 +1,5 @@
 //! What the machine's definitions come to over all runs, as laws: each function does nothing, and its contract states a law.
+ghost use Rattle.napi_types.specs.all_runs.AbandonedHooks.{HooksAreSettled};
 ghost use Rattle.napi_types.specs.all_runs.Laws.{RoomSuffices, CollectionsKeepWhatIsReached, TicketsAreOnce, WithdrawnByTheirCalls, EveryDutyIsOnce, TicketsBeginInOrder, TicketsAreCounted};
 
 /// Where the limits have room for the events that every run has, entries and reserved places stay within them at the end
@@ -20,13 +21,14 @@ pub fn tickets_are_once()
     ensures { TicketsAreOnce }
 {}
 
-/// Only an accepted `remove_wrap`, `set_instance_data` or `remove_env_cleanup_hook` withdraws a duty.
+/// Only an accepted `remove_wrap`, `set_instance_data`, `remove_env_cleanup_hook` or `remove_async_cleanup_hook` withdraws a duty.
 pub fn duties_are_withdrawn_by_their_calls()
     ensures { WithdrawnByTheirCalls }
 {}
 
 /// In every run to its end, whatever threads and workers do, each duty that is made and not withdrawn begins exactly once, and one that is withdrawn
-/// never. One is withdrawn by an accepted `remove_wrap`, `set_instance_data` or `remove_env_cleanup_hook` alone.
+/// never. One is withdrawn by an accepted `remove_wrap`,
+/// `set_instance_data`, `remove_env_cleanup_hook` or `remove_async_cleanup_hook` alone.
 pub fn every_duty_is_once()
     ensures { EveryDutyIsOnce }
 {}
@@ -40,4 +42,11 @@ pub fn tickets_begin_in_order()
 /// The tickets that calls make count from 1, so a ticket tells the order of registration.
 pub fn tickets_are_counted()
     ensures { TicketsAreCounted }
+{}
+
+/// In every run each asynchronous cleanup hook has a number of its own. Hooks are abandoned once at most, where at least one began and was not removed, and
+/// the result of `abandon` is how many did. Where the drain comes each asynchronous hook that began was removed by an accepted
+/// `remove_async_cleanup_hook`, or was one of those that `abandon` counted.
+pub fn asynchronous_hooks_are_settled()
+    ensures { HooksAreSettled }
 {}

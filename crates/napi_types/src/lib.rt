@@ -29,7 +29,10 @@ pub use entry::{
     Actor, Cause, Duty, Entry, Failed, Given, HostStep, Limits, Local, LoopEnd, MOST_ASKS,
     MOST_FRAMES, NoMemory, Out, Phase, Reply, SharedCall, Target, TsfnState, What, Why,
 };
-pub use ids::{HandleId, RefId, ScopeId, ScopeKind, TextNo, Ticket, TsfnId, ValueId, WorkId};
+pub use ids::{
+    AsyncHookId, DeferredId, HandleId, RefId, ScopeId, ScopeKind, TextNo, Ticket, TsfnId, ValueId,
+    WorkId,
+};
 pub use lists::{Actors, AddonPlan, EntryList, Listed, LocalList, OpList, OpLists, Plans, Record};
 pub use op::{Op, Regs};
 pub use script::{HIGHEST_VERSION, LOWEST_VERSION, LimitName, Mistake, Script, ScriptPart};

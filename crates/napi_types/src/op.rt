@@ -72,6 +72,8 @@ pub enum Op {
     GetInstanceData(u8),
     AddEnvCleanupHook(u32, u64),
     RemoveEnvCleanupHook(u32, u64),
+    AddAsyncCleanupHook(u32, u64, u8),
+    RemoveAsyncCleanupHook(u8),
     CreateAsyncWork(JobSpec, u32, u64, u8),
     DeleteAsyncWork(u8),
     CancelAsyncWork(u8),

@@ -46,7 +46,7 @@ use Rattle.napi_types.proofs.environment.FrameEnds.{ended-ends}
 use Rattle.napi_types.proofs.hub.HubKeeps.{hub_step-what, other-calls}
 use Rattle.napi_types.proofs.hub.HubRooms.{IsWork, not-refused, WorkWaits, queued-waits}
 use Rattle.napi_types.proofs.runs.Runs.{run-more, final-more}
-use Rattle.napi_types.proofs.runs.StepCases.{StepCase, calls, ends, opens, inits, begins, vanishes, shares, leaves, passes, moves, others, step-case}
+use Rattle.napi_types.proofs.runs.StepCases.{StepCase, calls, ends, opens, inits, begins, vanishes, shares, leaves, passes, moves, others, step-case, abandons}
 use Rattle.napi_types.proofs.all_runs.CancelledWorks.{cancelled-once, later-run}
 use Rattle.napi_types.proofs.all_runs.HubAccounts.{Accountable, opens-accountable as opens-well, run-accountable}
 use Rattle.napi_types.proofs.all_runs.NoRefusals.{no-refusal-accepts}
@@ -115,6 +115,7 @@ step-cancels m s w (shares c o shared answers) ok is accepted =
 step-cancels m s w (leaves v cut may ours) ok is accepted =
     absurd (no-call _ _ (ap is_of_call (ended-ends v cut m.env).is) (sym (hub_step-what m.hub (end_change v cut m.env).entry) ∙ is))
 step-cancels m s w (passes p o q) ok is accepted = absurd (no-call _ _ refl (sym (ap (λ (y : Entry). y.what) q.entry) ∙ is))
+step-cancels m s w (abandons here far none alone) ok is accepted = cc
 step-cancels m s w (moves (Delivers d) next moving alone) ok is accepted = absurd (no-call _ _ refl (sym (hub_step-what m.hub (delivery_entry d)) ∙ is))
 step-cancels m s w (moves (Closes n) next moving alone) ok is accepted =
     absurd (no-call _ _ refl (sym (hub_step-what m.hub (host_entry host.CloseTsfn (out.Function (record { 0 = n })))) ∙ is))

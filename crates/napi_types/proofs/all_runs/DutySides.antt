@@ -20,6 +20,7 @@ use Rattle.napi_types.specs.hub.HubEvents.{delivery_entry}
 use Rattle.napi_types.specs.hub.HubMoves.{HubMove, Delivers, Closes, Finishes}
 use Rattle.napi_types.specs.hub.HubSteps.{hub_step}
 use Rattle.napi_types.specs.runs.CallRoom.{room_of}
+use Rattle.napi_types.specs.runs.Choice.{waiting_hooks}
 use Rattle.napi_types.specs.runs.Machine.{Machine}
 use Rattle.napi_types.specs.runs.Run.{IsNext, after}
 use Rattle.napi_types.specs.runs.Step.{Step, move_step, has_room, step}
@@ -31,7 +32,7 @@ use Rattle.napi_types.proofs.environment.FrameEnds.{ended-ends}
 use Rattle.napi_types.proofs.hub.HubDuties.{hub_step-spares}
 use Rattle.napi_types.proofs.hub.HubDutySteps.{EntryHubDuties, hub-duties}
 use Rattle.napi_types.proofs.hub.HubFunctions.{AreSoundFrom}
-use Rattle.napi_types.proofs.runs.StepCases.{StepCase, calls, ends, opens, inits, begins, vanishes, shares, leaves, passes, moves, others, event_before, step-case}
+use Rattle.napi_types.proofs.runs.StepCases.{StepCase, calls, ends, opens, inits, begins, vanishes, shares, leaves, passes, moves, others, event_before, step-case, abandons}
 use Rattle.napi_types.proofs.all_runs.Onces.{TicketStep, called, began, ended, asked-is, end-is}
 use Rattle.napi_types.proofs.all_runs.Orderly.{Orderly}
 
@@ -103,6 +104,7 @@ step-side late m s sound (shares c o is answers) ok =
 step-side late m s sound (leaves v cut may ours) ok =
     by-hub late m.hub (end_change v cut m.env).entry sound (and-right may (hub_step m.hub (end_change v cut m.env).entry).may ok)
 step-side late m s sound (passes p o q) ok = by-hub late m.hub (host_entry (event_before p) o) sound ok
+step-side late m s sound (abandons here far none alone) ok = by-hub late m.hub (host_entry host.Abandon (out.Unsigned (waiting_hooks m.env))) sound ok
 step-side late m s sound (moves move next moving alone) ok = move-side late m move sound ok
 step-side late m s sound (others x other) ok = by-hub late m.hub x sound (and-right (has_room m x.what) (hub_step m.hub x).may ok)
 

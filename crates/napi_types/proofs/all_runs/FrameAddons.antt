@@ -42,8 +42,8 @@ use Rattle.napi_types.specs.hub.HubEvents.{delivery_entry}
 use Rattle.napi_types.specs.hub.ThreadSteps.{thread_step}
 use Rattle.napi_types.specs.hub.WorkerSteps.{worker_step}
 use Rattle.napi_types.specs.hub.HubSteps.{environment_step, hub_step, hub_step_of}
-use Rattle.napi_types.specs.runs.Choice.{choice}
-use Rattle.napi_types.specs.runs.Loop.{Event, Inits, Tickets, Moves, Goes, EndsLoop, Drains, FinalsCome}
+use Rattle.napi_types.specs.runs.Choice.{choice, waiting_hooks}
+use Rattle.napi_types.specs.runs.Loop.{Event, Inits, Tickets, Moves, Goes, EndsLoop, Drains, FinalsCome, Abandons}
 use Rattle.napi_types.specs.runs.Machine.{Machine}
 use Rattle.napi_types.specs.runs.Run.{IsRunBy, final}
 use Rattle.napi_types.specs.runs.Setting.{opening_of}
@@ -187,6 +187,11 @@ event-step-owned n m (Tickets t) is k = ticket-step-owned n m t (registration_at
 event-step-owned n m (Moves move) is k = move-step-owned n m move (chosen-move m move is) k
 event-step-owned n m Goes is k = great-owned n m host.Go phase.Live out.Nothing k
 event-step-owned n m (EndsLoop w) is k = great-owned n m host.LoopEnd phase.Hooks (out.Ended w) k
+event-step-owned n m Abandons is k = record {
+  addons = k.addons;
+  env = record { frames = k.env.frames; functions = k.env.functions; tickets = k.env.tickets };
+  hub = host-owned n m.hub (host_entry host.Abandon (out.Unsigned (waiting_hooks m.env))) host.Abandon refl k.hub;
+}
 event-step-owned n m Drains is k = great-owned n m host.Drain phase.Drain (out.Unsigned (length m.hub.pool.queued)) k
 event-step-owned n m FinalsCome is k = great-owned n m host.Finals phase.Finals out.Nothing k
 event-step-owned n m _ is k = record { addons = k.addons; env = record { frames = k.env.frames; functions = k.env.functions; tickets = k.env.tickets }; hub = k.hub }

@@ -11,11 +11,11 @@ use Rattle.napi_types.specs.plain.Entries.{host_entry}
 use Rattle.napi_types.specs.parts.Book.{Registration, TicketState, registration_at, lowest_due, is_at, is_due, may_begin_in}
 use Rattle.napi_types.specs.parts.Hooks.{Hook, last_hook}
 use Rattle.napi_types.specs.environment.Hooked.{is_from_finals_on, IsHooked}
-use Rattle.napi_types.specs.hub.Hub.{Stage, Before, Live, LoopEnded, Drained, Final, stage_after, IsStageOf}
-use Rattle.napi_types.specs.hub.HubEvents.{begin_step, close_step, finish_step, delivery_entry, is_moving}
+use Rattle.napi_types.specs.hub.Hub.{Stage, Before, Live, LoopEnded, Drained, Final, stage_after, IsStageOf, HooksAbandoned, is_of_hooks}
+use Rattle.napi_types.specs.hub.HubEvents.{begin_step, close_step, finish_step, delivery_entry, is_moving, is_still}
 use Rattle.napi_types.specs.hub.HubMoves.{HubMove, Delivers, Closes, Finishes, hub_move, idle_reason, is_idle, is_quiet, is_spent}
 use Rattle.napi_types.specs.runs.Choice.{choice, local_choice_in, hub_choice, hub_choice_at, finals_choice, waiting_hooks}
-use Rattle.napi_types.specs.runs.Loop.{Event, Opens, Inits, Tickets, Moves, Goes, EndsLoop, FinalsCome, IsGone}
+use Rattle.napi_types.specs.runs.Loop.{Event, Opens, Inits, Tickets, Moves, Goes, EndsLoop, FinalsCome, IsGone, Abandons, Drains}
 use Rattle.napi_types.specs.runs.Machine.{Machine}
 use Rattle.napi_types.specs.runs.Setting.{final_of}
 use Rattle.napi_types.specs.runs.Step.{ticket_step, move_step, event_step}
@@ -25,6 +25,8 @@ use Rattle.napi_types.proofs.parts.Moved.{IsUnder, PassesTest}
 use Rattle.napi_types.proofs.environment.HookedSteps.{hook-registered}
 use Rattle.napi_types.proofs.runs.StandingDuties.{none-standing}
 use Rattle.napi_types.proofs.all_runs.Orderly.{Orderly, orderly-run}
+use Rattle.std.proofs.lemmas.Bool.{and_from}
+use Rattle.std.specs.Prelude.{◌==◌}
 
 -- GREAT EVENTS
 great : (m : Machine) (event : HostStep) (s : Stage) → m.hub.stage ≡ s → m.hub.standing ≡ None → is_some (stage_after s event) ≡ true
@@ -86,7 +88,27 @@ hooks-may : (m : Machine) (o : Option Hook) → last_hook m.env.hooks ≡ o → 
     → May m (option_or (option_map Tickets (option_map (λ (h : Hook). h.ticket) o)) (hub_choice_at m.hub (waiting_hooks m.env) LoopEnded))
 hooks-may m (Some h) last hooked here far alone =
     ticket-may phase.Hooks m h.ticket here (hook-registered m.env h hooked (ap is_from_finals_on here) last)
-hooks-may m None last hooked here far alone = great m host.Drain LoopEnded far alone refl
+hooks-may m None last hooked here far alone = by (waiting_hooks m.env == 0)
+  where
+    quiet-may : (quiet : Bool) → is_quiet m.hub ≡ quiet → hub_move m.hub ≡ None → May m (cond quiet (Some Abandons) None)
+    quiet-may true quiet still = and_from _ (is_still m.hub) (great m host.Abandon LoopEnded far alone refl) (and_from _ (is_quiet m.hub) (ap is_none still) quiet)
+    quiet-may false quiet still = tt
+
+    waiting-may : (o : Option HubMove) → hub_move m.hub ≡ o → May m (option_or (option_map Moves o) (cond (is_quiet m.hub) (Some Abandons) None))
+    waiting-may (Some move) next = move-may m move next (ap is_moving far) alone
+    waiting-may None next = quiet-may (is_quiet m.hub) refl next
+
+    by : (unwaited : Bool) → May m (cond unwaited (Some Drains) (option_or (option_map Moves (hub_move m.hub)) (cond (is_quiet m.hub) (Some Abandons) None)))
+    by true = great m host.Drain LoopEnded far alone refl
+    by false = waiting-may (hub_move m.hub) refl
+
+-- once hooks were abandoned
+abandoned-may : (m : Machine) (o : Option Hook) → last_hook m.env.hooks ≡ o → IsHooked m.env → m.env.phase ≡ phase.Hooks → m.hub.stage ≡ HooksAbandoned
+    → m.hub.standing ≡ None
+    → May m (option_or (option_map Tickets (option_map (λ (h : Hook). h.ticket) o)) (hub_choice_at m.hub (waiting_hooks m.env) HooksAbandoned))
+abandoned-may m (Some h) last hooked here far alone =
+    ticket-may phase.Hooks m h.ticket here (hook-registered m.env h hooked (ap is_from_finals_on here) last)
+abandoned-may m None last hooked here far alone = great m host.Drain HooksAbandoned far alone refl
 
 drained-may : (m : Machine) (o : Option HubMove) → hub_move m.hub ≡ o → m.hub.stage ≡ Drained → m.hub.standing ≡ None → May m (option_or (option_map Moves o) (finals_choice m.hub))
 drained-may m (Some move) next far alone = move-may m move next (ap is_moving far) alone
@@ -112,8 +134,12 @@ phase-may m phase.Init here far hooked alone =
     at-stage m Before (local_choice_in m.env phase.Init) far (init-may m m.env.opened (nat_lt m.env.inits m.env.addons) far alone)
 phase-may m phase.Live here far hooked alone =
     at-stage m Live (local_choice_in m.env phase.Live) far (live-may m m.env.exit_asked (lowest_due m.env.book) refl here far alone)
-phase-may m phase.Hooks here far hooked alone =
-    at-stage m LoopEnded (local_choice_in m.env phase.Hooks) far (hooks-may m (last_hook m.env.hooks) refl hooked here far alone)
+phase-may m phase.Hooks here far hooked alone = by m.hub.stage refl far
+  where
+    by : (s : Stage) → m.hub.stage ≡ s → is_of_hooks s ≡ true → May m (option_or (local_choice_in m.env phase.Hooks) (hub_choice m.hub (waiting_hooks m.env)))
+    by LoopEnded at of = at-stage m LoopEnded (local_choice_in m.env phase.Hooks) at (hooks-may m (last_hook m.env.hooks) refl hooked here at alone)
+    by HooksAbandoned at of = at-stage m HooksAbandoned (local_choice_in m.env phase.Hooks) at (abandoned-may m (last_hook m.env.hooks) refl hooked here at alone)
+    by _ at of = cc
 phase-may m phase.Drain here far hooked alone = at-stage m Drained None far (drained-may m (hub_move m.hub) refl far alone)
 phase-may m phase.Finals here far hooked alone =
     at-stage m Final (local_choice_in m.env phase.Finals) far (finals-may m (lowest_due m.env.book) refl here)

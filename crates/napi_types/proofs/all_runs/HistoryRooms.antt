@@ -33,7 +33,7 @@ use Rattle.napi_types.specs.hub.ThreadSteps.{thread_step}
 use Rattle.napi_types.specs.hub.WorkerSteps.{worker_step}
 use Rattle.napi_types.specs.runs.CallRoom.{room_of}
 use Rattle.napi_types.specs.runs.Choice.{local_choice, hub_choice, choice, waiting_hooks}
-use Rattle.napi_types.specs.runs.Loop.{Event, Inits, Opens, Tickets, Moves, Goes, EndsLoop, Drains, FinalsCome, IsGone}
+use Rattle.napi_types.specs.runs.Loop.{Event, Inits, Opens, Tickets, Moves, Goes, EndsLoop, Drains, FinalsCome, IsGone, Abandons}
 use Rattle.napi_types.specs.runs.Machine.{Machine}
 use Rattle.napi_types.specs.runs.Run.{IsRunBy, final}
 use Rattle.napi_types.specs.runs.Setting.{Setting, opening_of}
@@ -164,6 +164,7 @@ event-hub Enough l m (Tickets n) next may r = ticket-hub Enough l m n (registrat
 event-hub Enough l m (Moves move) next may r = move-hub Enough l m move may r
 event-hub Enough l m Goes next may r = plain-stepped Enough l m _ (host_entry host.Go out.Nothing) refl refl refl refl may r
 event-hub Enough l m (EndsLoop w) next may r = plain-stepped Enough l m _ (host_entry host.LoopEnd (out.Ended w)) refl refl refl refl may r
+event-hub Enough l m Abandons next may r = plain-stepped Enough l m _ (host_entry host.Abandon (out.Unsigned (waiting_hooks m.env))) refl refl refl refl may r
 event-hub Enough l m Drains next may r = plain-stepped Enough l m _ (host_entry host.Drain (out.Unsigned (length m.hub.pool.queued))) refl refl refl refl may r
 event-hub Enough l m FinalsCome next may r =
     hub-stepped Enough l m _ (host_entry host.Finals out.Nothing)
@@ -229,12 +230,12 @@ hub-run Enough l m bs xs r run = along-run (HubRoomy Enough l) (λ m a x next. f
 -- A WHOLE RUN
 -- the limit of the history has room for the events that every run has
 abbrev pub HistorySuffices : Setting → Type 0
-HistorySuffices s = 4 + s.threads + s.workers ≤ s.limits.history
+HistorySuffices s = 5 + s.threads + s.workers ≤ s.limits.history
 
 all-left : (n : ℕ) → length (left_of n []) ≡ n
 all-left n = ap length (filter_all (λ k. not (has_number k [])) (range_with_len 0 n) (λ k d inside. refl)) ∙ length-range_with_len 0 n
 
-history-opens : (t w a b x : ℕ) → a ≡ t → b ≡ w → 4 + t + w ≤ x → 0 + (4 + a + b + (4 * 0 + 3 * 0 + 2 * 0) + 0 + 0) ≤ x
+history-opens : (t w a b x : ℕ) → a ≡ t → b ≡ w → 5 + t + w ≤ x → 0 + (5 + a + b + (4 * 0 + 3 * 0 + 2 * 0) + 0 + 0) ≤ x
 history-opens t w a b x e f h = omega (arith, e, f, h)
 
 pub opening-hub : (s : Setting) → HubRoomy (HistorySuffices s) s.limits (opening_of s)

@@ -31,11 +31,10 @@ use Rattle.napi_types.proofs.hub.HubDutySteps.{ChangesFunction, calls, acquires,
 use Rattle.napi_types.proofs.hub.HubFunctions.{AreSoundFrom, function_changed_at}
 use Rattle.napi_types.proofs.hub.HubHolds.{HubSound}
 use Rattle.napi_types.proofs.runs.Runs.{along-entries, along-run}
-use Rattle.napi_types.proofs.runs.StepCases.{step-case}
 use Rattle.napi_types.proofs.all_runs.DutySides.{OfBook, HubSide, in_journal, in_history, next-side}
 use Rattle.napi_types.proofs.all_runs.FunctionAccounts.{FinishesWell, accepted_at, finalizer_at, FunctionAccount, function-account}
 use Rattle.napi_types.proofs.all_runs.HistoryRooms.{HubRoomy, hub-run, opening-hub, HistorySuffices}
-use Rattle.napi_types.proofs.all_runs.Orderly.{Orderly, orderly-step, orderly-opens}
+use Rattle.napi_types.proofs.all_runs.Orderly.{Orderly, next-orderly, orderly-opens}
 use Rattle.napi_types.proofs.all_runs.WorkAccounts.{given_in_pool, ran_in_pool, WorkAccount, work-account}
 
 -- WHAT WAS GIVEN
@@ -280,7 +279,7 @@ sound-of l m k = k.roomy.sound.functions
 pub next-of : (l : Limits) (m : Machine) (a : Ask) (x : Entry) → Accountable l m → IsNext m a x → Accountable l (after m a x)
 next-of l m a x k next = record {
   roomy = hub-run ⊥ l m (a ∷ []) (x ∷ []) k.roomy (next, tt);
-  orderly = orderly-step m (step m a x) k.orderly (step-case m a x k.orderly.stage next);
+  orderly = next-orderly m a x k.orderly next;
   facts = side-facts m.hub x (after m a x).hub k.roomy.sound k.facts
       (next-side (is_past_drain m.hub.stage) m a x (sound-of l m k) k.orderly next);
 }

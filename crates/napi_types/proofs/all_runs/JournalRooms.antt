@@ -27,12 +27,12 @@ use Rattle.napi_types.specs.environment.Entering.{asked_change}
 use Rattle.napi_types.specs.environment.Environment.{Environment}
 use Rattle.napi_types.specs.environment.JournalRoom.{gone_place, reserved_journal, journal_room}
 use Rattle.napi_types.specs.environment.SharedCalls.{shared_entry, after_shared}
-use Rattle.napi_types.specs.hub.Hub.{IsStageOf, Stage, Before, Live, LoopEnded, Drained}
+use Rattle.napi_types.specs.hub.Hub.{IsStageOf, Stage, Before, Live, LoopEnded, Drained, HooksAbandoned, is_of_hooks}
 use Rattle.napi_types.specs.hub.HubMoves.{HubMove, Delivers, Closes, Finishes, hub_move}
 use Rattle.napi_types.specs.hub.HubSteps.{hub_step}
 use Rattle.napi_types.specs.runs.CallRoom.{room_of}
 use Rattle.napi_types.specs.runs.Choice.{choice, waiting_hooks}
-use Rattle.napi_types.specs.runs.Loop.{EndsLoop, Event}
+use Rattle.napi_types.specs.runs.Loop.{EndsLoop, Event, Abandons}
 use Rattle.napi_types.specs.runs.Machine.{Machine}
 use Rattle.napi_types.specs.runs.Run.{IsRunBy, after, final, IsNext}
 use Rattle.napi_types.specs.runs.Setting.{Setting, final_of, opening_of}
@@ -52,7 +52,7 @@ use Rattle.napi_types.proofs.runs.Forms as form
 use Rattle.napi_types.proofs.runs.Forms.{Form, form-of}
 use Rattle.napi_types.proofs.runs.Runs.{along-entries, along-run}
 use Rattle.napi_types.proofs.runs.SharedSteps.{after_shared-alone, shares-still, moves-still, others-still, end-stage}
-use Rattle.napi_types.proofs.runs.StepCases.{StepCase, shares, leaves, passes, moves, others, InPhase, stage-in, still-in-phase, stage-moved, step-case}
+use Rattle.napi_types.proofs.runs.StepCases.{StepCase, shares, leaves, passes, moves, others, InPhase, stage-in, still-in-phase, stage-moved, step-case, abandons}
 use Rattle.napi_types.proofs.all_runs.Orderly.{late-tears, settled-passed}
 
 abbrev pub is_init : Phase → Bool
@@ -246,8 +246,22 @@ later-inits Enough l m p e n r = r.inits (ap is_init e ∙ n)
 loop-ended-room : (Enough : Type 0) (l : Limits) (m : Machine) (w : LoopEnd) → m.env.phase ≡ phase.Live → Roomy Enough l m
     → Roomy Enough l (event_step m (EndsLoop w)).after
 loop-ended-room Enough l m w e r =
-    passed-room Enough l m host.LoopEnd phase.Hooks (out.Ended w) (stage-moved m host.LoopEnd Live (stage-in m phase.Live r.stage e)) (rw e refl) (λ q. cc)
+    passed-room Enough l m host.LoopEnd phase.Hooks (out.Ended w) (ap is_of_hooks (stage-moved m host.LoopEnd Live (stage-in m phase.Live r.stage e))) (rw e refl) (λ q. cc)
     (later-opened Enough l m phase.Live e refl r) (later-inits Enough l m phase.Live e refl r) r
+
+-- the hooks that wait are abandoned
+abandoned-room : (Enough : Type 0) (l : Limits) (m : Machine) → m.env.phase ≡ phase.Hooks → m.hub.stage ≡ LoopEnded → Roomy Enough l m
+    → Roomy Enough l (event_step m Abandons).after
+abandoned-room Enough l m e far r = record {
+  limits = r.limits;
+  journal = r.journal;
+  stage = subst (λ p. IsStageOf p (event_step m Abandons).after.hub.stage) (sym e) (ap is_of_hooks (stage-moved m host.Abandon LoopEnded far));
+  opened = r.opened;
+  inits = r.inits;
+  settled = r.settled;
+  bare = r.bare;
+  spent = r.spent;
+}
 
 not-gone : (e : Environment) (p : Phase) → e.phase ≡ p → p ≢ phase.Gone → e.phase ≢ phase.Gone
 not-gone e p is never = λ gone. never (sym is ∙ gone)
@@ -309,7 +323,13 @@ hub-room Enough l m _ _ _ e far shown (choices.idles none idle) (choices.waits u
 hub-room Enough l m _ _ _ e far shown (choices.quiets none busy quiet) (choices.waits unasked lowest) r = loop-ended-room Enough l m loop_end.Quiet e r
 hub-room Enough l m _ _ _ e far shown (choices.moves_in_loop move next) (choices.waits unasked lowest) r =
     move-room Enough l m move next (not-gone m.env phase.Live e (λ q. cc)) r
-hub-room Enough l m _ _ _ e far shown choices.drains (choices.unhooked none) r =
+hub-room Enough l m _ _ _ e far shown (choices.abandons some still quiet) (choices.unhooked none) r = abandoned-room Enough l m e far r
+hub-room Enough l m _ _ _ e far shown (choices.moves_in_hooks some move next) (choices.unhooked none) r =
+    move-room Enough l m move next (not-gone m.env phase.Hooks e (λ q. cc)) r
+hub-room Enough l m _ _ _ e far shown choices.drains_later (choices.unhooked none) r =
+    passed-room Enough l m host.Drain phase.Drain (out.Unsigned (length m.hub.pool.queued)) (stage-moved m host.Drain HooksAbandoned far) (rw e refl) (λ q. cc)
+    (later-opened Enough l m phase.Hooks e refl r) (later-inits Enough l m phase.Hooks e refl r) r
+hub-room Enough l m _ _ _ e far shown (choices.drains unwaited) (choices.unhooked none) r =
     passed-room Enough l m host.Drain phase.Drain (out.Unsigned (length m.hub.pool.queued)) (stage-moved m host.Drain LoopEnded far) (rw e refl) (λ q. cc)
     (later-opened Enough l m phase.Hooks e refl r) (later-inits Enough l m phase.Hooks e refl r) r
 hub-room Enough l m _ _ _ e far shown (choices.finals none spent) choices.drained r =
@@ -374,6 +394,7 @@ step-counted : (m : Machine) (s : Step) → StepCase m s → entries s.after ≡
 step-counted m _ (shares c o is answers) = one-shared m.journal_length m.history_length
 step-counted m _ (leaves v cut may is) = one-shared m.journal_length m.history_length
 step-counted m _ (passes p o passed) = one-shared m.journal_length m.history_length
+step-counted m _ (abandons here far none alone) = one-shared m.journal_length m.history_length
 step-counted m _ (moves move next moving alone) = move-counted m move
 step-counted m _ (others x other) = one-shared m.journal_length m.history_length
 step-counted m _ _ = one-local m.journal_length m.history_length

@@ -34,7 +34,8 @@ use Rattle.napi_types.specs.hub.HubStep.{HubStep, answered_step}
 use Rattle.napi_types.specs.hub.HubSteps.{IsHubNext, hub_step, hub_step_of, environment_step, hub_along}
 use Rattle.napi_types.specs.hub.Replays.{HubReplays}
 use Rattle.napi_types.specs.runs.CallRoom.{room_of}
-use Rattle.napi_types.specs.runs.Loop.{Event, Tickets, Moves, Goes, EndsLoop, Drains, FinalsCome}
+use Rattle.napi_types.specs.runs.Choice.{waiting_hooks}
+use Rattle.napi_types.specs.runs.Loop.{Event, Tickets, Moves, Goes, EndsLoop, Drains, FinalsCome, Abandons}
 use Rattle.napi_types.specs.runs.Machine.{Machine}
 use Rattle.napi_types.specs.runs.Parting.{IsParted, sides_along}
 use Rattle.napi_types.specs.runs.Run.{IsRunBy, after, final}
@@ -174,6 +175,7 @@ happens-stands m (Tickets n) may = ticket-stands m n (registration_at m.env.book
 happens-stands m (Moves move) may = move-stands m move may
 happens-stands m Goes may = event-stands m (host_entry host.Go out.Nothing) host.Go _ true refl refl may
 happens-stands m (EndsLoop w) may = event-stands m (host_entry host.LoopEnd (out.Ended w)) host.LoopEnd _ true refl refl may
+happens-stands m Abandons may = event-stands m (host_entry host.Abandon (out.Unsigned (waiting_hooks m.env))) host.Abandon _ true refl refl may
 happens-stands m Drains may = event-stands m (host_entry host.Drain (out.Unsigned (length m.hub.pool.queued))) host.Drain _ true refl refl may
 happens-stands m FinalsCome may = event-stands m (host_entry host.Finals out.Nothing) host.Finals _ true refl refl may
 happens-stands m _ may = record { limits = refl; stands = record { hub = refl; length = refl } }

@@ -203,14 +203,14 @@ run-told w s bs xs run =
     (opening_of s) bs xs (opens-accountable s) run None (λ n is. let no : None ≡ Some n = is in cc)
 
 -- a run of entries that stand behind others is in two parts
-record InTwoParts (m : Machine) (bs : List Ask) (xs ys : List Entry) : Type 0 where
+pub record InTwoParts (m : Machine) (bs : List Ask) (xs ys : List Entry) : Type 0 where
   pub prefix : List Ask
   pub rest : List Ask
   pub whole : prefix ++ rest ≡ bs
   pub run : IsRunBy m prefix xs
   pub later : IsRunBy (final m prefix xs) rest ys
 
-parts-of : (m : Machine) (bs : List Ask) (xs ys : List Entry) → IsRunBy m bs (xs ++ ys) → InTwoParts m bs xs ys
+pub parts-of : (m : Machine) (bs : List Ask) (xs ys : List Entry) → IsRunBy m bs (xs ++ ys) → InTwoParts m bs xs ys
 parts-of m bs [] ys run = record { prefix = []; rest = bs; whole = refl; run = tt; later = run }
 parts-of m [] (x ∷ xs) ys run = absurd run
 parts-of m (b ∷ bs) (x ∷ xs) ys run =

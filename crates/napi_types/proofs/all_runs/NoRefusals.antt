@@ -17,12 +17,11 @@ use Rattle.napi_types.specs.plain.Lists.{when, unless}
 use Rattle.napi_types.specs.plain.Numbers.{is_ten_or_later}
 use Rattle.napi_types.specs.parts.Attachments.{Attachments}
 use Rattle.napi_types.specs.parts.Bodies.{is_function, is_referable, is_string}
-use Rattle.napi_types.specs.parts.Frames.{Frame, caller_of}
+use Rattle.napi_types.specs.parts.Frames.{Frame}
 use Rattle.napi_types.specs.parts.FunctionCalls.{function_refusal}
 use Rattle.napi_types.specs.parts.Heap.{Heap, handle_body}
 use Rattle.napi_types.specs.parts.HeapGroups.{heap_group}
 use Rattle.napi_types.specs.parts.HeapRefusals.{kind_refusal, row_refusal, refusal_in}
-use Rattle.napi_types.specs.parts.Hooks.{Hook}
 use Rattle.napi_types.specs.parts.Kinds.{expects, expects_if}
 use Rattle.napi_types.specs.parts.NamedNumbers.{is_known, unknown_refusal}
 use Rattle.napi_types.specs.parts.PropertyCalls.{property_kinds, property_refusal}
@@ -158,10 +157,11 @@ by-attachment a heap (call.RemoveWrap h) = by-unless _ status.InvalidArg refl
 by-attachment a heap (call.TypeTagObject h _ _) = by-when _ status.InvalidArg refl
 by-attachment a heap _ = tt
 
-by-hook : (addon : ℕ) (hooks : List Hook) (c : Call) → Refuses (hook_refusal addon hooks c)
-by-hook addon hooks (call.AddEnvCleanupHook entry argument) = by-when _ status.InvalidArg refl
-by-hook addon hooks (call.RemoveEnvCleanupHook entry argument) = by-unless _ status.InvalidArg refl
-by-hook addon hooks _ = tt
+by-hook : (e : Environment) (c : Call) → Refuses (hook_refusal e c)
+by-hook e (call.AddEnvCleanupHook entry argument) = by-when _ status.InvalidArg refl
+by-hook e (call.RemoveEnvCleanupHook entry argument) = by-unless _ status.InvalidArg refl
+by-hook e (call.RemoveAsyncCleanupHook hook) = by-unless _ status.InvalidArg refl
+by-hook e _ = tt
 
 by-count : (m : ReferenceMap) (c : Call) → Refuses (count_refusal m c)
 by-count m (call.ReferenceRef r) = by-when _ status.GenericFailure refl
@@ -179,7 +179,7 @@ by-referring e _ = tt
 by-group : (g : CallGroup) (e : Environment) (c : Call) → Refuses ((call_group g).refuses e c)
 by-group OnReferences e c = either (referring_refusal e c) (reference_refusal e.references c) (by-referring e c) (by-reference e.references c)
 by-group OnWraps e c = by-attachment e.attachments e.heap c
-by-group OnHooks e c = by-hook (caller_of e.frames) e.hooks c
+by-group OnHooks e c = by-hook e c
 by-group _ e c = tt
 
 by-depth : (fs : List Frame) (c : Call) → Refuses (depth_refusal fs c)

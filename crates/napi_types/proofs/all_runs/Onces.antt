@@ -424,6 +424,14 @@ run-counts : (m : Machine) (bs : List Ask) (xs : List Entry) → Orderly m → I
 run-counts = along-orderly (λ m bs xs. CountsFrom (length m.env.book) (tickets_made xs)) (λ m. refl) (λ m a bs x xs h next s k rest.
     counts-cons m.env.book x.reply.made (after m a x).env.book (tickets_made xs) (duty-makes m.env.book _ _ _ _ (next-is m a x h next)) rest)
 
+-- the book never has fewer registrations
+makes-more : (b : Book) (made : Option Duty) (c : Book) → MakesTicket b made c → length b ≤ length c
+makes-more b _ _ (making c longer) = omega (arith, longer)
+makes-more b _ _ (unmade made c no_ticket same) = omega (arith, same)
+
+pub book-grows : (m : Machine) (a : Ask) (x : Entry) → Orderly m → IsNext m a x → length m.env.book ≤ length (after m a x).env.book
+book-grows m a x h next = makes-more m.env.book _ _ (duty-makes m.env.book _ _ _ _ (next-is m a x h next))
+
 pub tickets-counted : TicketsAreCounted
 tickets-counted s bs xs run = run-counts (opening_of s) bs xs (orderly-opens s) run.steps
 

@@ -10,6 +10,7 @@ use Rattle.napi_types.specs.declared.entry.Phase.TheVariants as phase
 use Rattle.napi_types.specs.declared.entry.Why.{Why}
 use Rattle.napi_types.specs.declared.ids.HandleId.{HandleId}
 use Rattle.napi_types.specs.declared.call.Ask.{Ask}
+use Rattle.napi_types.specs.declared.entry.HostStep.TheVariants as host
 use Rattle.napi_types.specs.plain.Lists.{has}
 use Rattle.napi_types.specs.plain.Phases.{next_phase}
 use Rattle.napi_types.specs.parts.Book.{Book, Registration, is_owed, registration_at}
@@ -21,10 +22,11 @@ use Rattle.napi_types.specs.environment.Environment.{Environment}
 use Rattle.napi_types.specs.environment.Hooked.{is_from_finals_on, IsHooked}
 use Rattle.napi_types.specs.environment.Moments.{is_tearing}
 use Rattle.napi_types.specs.environment.Registry.{registry_of}
-use Rattle.napi_types.specs.hub.Hub.{IsStageOf}
+use Rattle.napi_types.specs.hub.Hub.{IsStageOf, is_of_hooks, LoopEnded}
+use Rattle.napi_types.specs.runs.Loop.{Abandons}
 use Rattle.napi_types.specs.runs.Machine.{Machine}
 use Rattle.napi_types.specs.runs.Setting.{Setting, opens_with, opening_of, final_of}
-use Rattle.napi_types.specs.runs.Step.{Step, step}
+use Rattle.napi_types.specs.runs.Step.{Step, step, event_step}
 use Rattle.napi_types.specs.runs.Run.{IsNext, IsRunBy, after}
 use Rattle.napi_types.proofs.parts.Books.{NoneRegistered, all_due-none}
 use Rattle.napi_types.proofs.parts.Moved.{at-state, at-cause}
@@ -32,10 +34,11 @@ use Rattle.napi_types.proofs.parts.Moves.{MovesKeep, each-kept, unowed-moved}
 use Rattle.napi_types.proofs.environment.AnswersKeep.{SameCourse, course-parts}
 use Rattle.napi_types.proofs.environment.FrameChanges.{HasRegistry, registry-parts, ended-keeps, asked_change-fits}
 use Rattle.napi_types.proofs.environment.FrameEnds.{ended-ends}
-use Rattle.napi_types.proofs.environment.HookedSteps.{unchanged, hooked-opening, hooked-opened, hooked-init, hooked-asked, hooked-ended, hooked-begun, hooked-phase, hooked-gone}
+use Rattle.napi_types.proofs.environment.HookedSteps.{unchanged, hooked-opening, hooked-opened, hooked-init, hooked-asked, hooked-ended, hooked-begun, hooked-phase, hooked-gone, hooked-abandoned}
 use Rattle.napi_types.proofs.environment.Registrations.{asked-kept, ended-kept, begun-kept, phase-kept, torn-new, none-asked, none-ended, none-begun}
 use Rattle.napi_types.proofs.runs.SharedSteps.{StandsStill, shares-still, moves-still, others-still, end-stage}
-use Rattle.napi_types.proofs.runs.StepCases.{StepCase, calls, ends, opens, inits, begins, vanishes, shares, leaves, passes, moves, others, InPhase, stage-in, still-in-phase, step-case}
+use Rattle.napi_types.proofs.runs.NewNumbers.{IsNewIn, next-new}
+use Rattle.napi_types.proofs.runs.StepCases.{StepCase, calls, ends, opens, inits, begins, vanishes, shares, leaves, passes, moves, others, InPhase, stage-in, still-in-phase, step-case, abandons, stage-moved}
 use Rattle.napi_types.proofs.runs.Runs.{along-entries, along-run}
 
 -- WHAT HOLDS
@@ -139,45 +142,55 @@ orderly-ended m n v cut far same h =
           (ended-kept (All IsSpent) spent-kept m.env v cut (h.spent (ap is_drained (sym phase) ∙ p)));
     }
 
--- each step keeps it
-pub orderly-step : (m : Machine) (s : Step) → Orderly m → StepCase m s → Orderly s.after
-orderly-step m _ h (calls c n may alone) =
+-- each step keeps it that gives no number twice
+orderly-step : (m : Machine) (s : Step) → Orderly m → IsNewIn m s → StepCase m s → Orderly s.after
+orderly-step m _ h new (calls c n may alone) =
     let d : Environment = (asked_change m.env c n).after in
     let course : SameCourse m.env d = course-parts m.env d (asked_change-fits m.env c n).course in
     record {
       stage = subst (λ p. IsStageOf p m.hub.stage) (sym course.phase) h.stage;
-      hooked = hooked-asked m.env c n h.hooked;
+      hooked = hooked-asked m.env c n (new refl) h.hooked;
       settled = λ p. let late : is_from_finals_on m.env.phase ≡ true = ap is_from_finals_on (sym course.phase) ∙ p in none-asked m.env c n
           (late-tears m.env.phase late) (h.settled late);
       spent = λ p. let drained : is_drained m.env.phase ≡ true = ap is_drained (sym course.phase) ∙ p in spent-asked m.env c n (drained-tears m.env.phase drained) (h.spent drained);
     }
-orderly-step m s h (ends v cut may alone) = orderly-ended m s.after v cut refl refl h
-orderly-step m _ h opens = record { stage = h.stage; hooked = hooked-opened m.env h.hooked; settled = h.settled; spent = h.spent }
-orderly-step m _ h (inits n) = record { stage = h.stage; hooked = hooked-init n m.env h.hooked; settled = h.settled; spent = h.spent }
-orderly-step m _ h (begins n r there next may) = record {
+orderly-step m s h new (ends v cut may alone) = orderly-ended m s.after v cut refl refl h
+orderly-step m _ h new opens = record { stage = h.stage; hooked = hooked-opened m.env h.hooked; settled = h.settled; spent = h.spent }
+orderly-step m _ h new (inits n) = record { stage = h.stage; hooked = hooked-init n m.env h.hooked; settled = h.settled; spent = h.spent }
+orderly-step m _ h new (begins n r there next may) = record {
   stage = h.stage;
   hooked = hooked-begun n r m.env there may h.hooked;
   settled = λ p. none-begun m.env.phase n m.env.book (h.settled p);
   spent = λ p. begun-kept (All IsSpent) spent-kept m.env.phase n m.env.book (h.spent p);
 }
-orderly-step m _ h (vanishes last) = record {
+orderly-step m _ h new (vanishes last) = record {
   stage = stage-in m phase.Finals h.stage last;
   hooked = hooked-gone m.env h.hooked;
   settled = λ p. h.settled (ap is_from_finals_on last);
   spent = λ p. h.spent (ap is_drained last);
 }
-orderly-step m s h (shares c o shared answers) = orderly-still m s.after (shares-still m c o) h
-orderly-step m s h (leaves v cut may ours) =
+orderly-step m s h new (shares c o shared answers) = orderly-still m s.after (shares-still m c o) h
+orderly-step m s h new (leaves v cut may ours) =
     let x : Entry = (end_change v cut m.env).entry in
     orderly-ended m s.after v cut (end-stage m.hub x (ended-ends v cut m.env).who (ended-ends v cut m.env).is) refl h
-orderly-step m _ h (passes p o q) = record {
+orderly-step m _ h new (passes p o q) = record {
   stage = q.far;
   hooked = hooked-phase p m.env q.next h.hooked;
   settled = settled-passed p m.env.book q.never;
   spent = spent-passed m.env p q.next q.left h.hooked h.spent;
 }
-orderly-step m s h (moves move next moving alone) = orderly-still m s.after (moves-still m move) h
-orderly-step m s h (others x other) = orderly-still m s.after (others-still m x other) h
+orderly-step m _ h new (abandons here far none alone) = record {
+  stage = subst (λ p. IsStageOf p (event_step m Abandons).after.hub.stage) (sym here) (ap is_of_hooks (stage-moved m host.Abandon LoopEnded far));
+  hooked = hooked-abandoned m.env h.hooked;
+  settled = h.settled;
+  spent = h.spent;
+}
+orderly-step m s h new (moves move next moving alone) = orderly-still m s.after (moves-still m move) h
+orderly-step m s h new (others x other) = orderly-still m s.after (others-still m x other) h
+
+-- and so does each step that comes next
+pub next-orderly : (m : Machine) (a : Ask) (x : Entry) → Orderly m → IsNext m a x → Orderly (after m a x)
+next-orderly m a x h next = orderly-step m (step m a x) h (next-new m a x next) (step-case m a x h.stage next)
 
 -- what the empty run has, and each run that is longer by an entry at its start, every run has that starts orderly
 pub along-orderly : (Q : Machine → List Ask → List Entry → Type 0) → ((m : Machine) → Q m [] [])
@@ -187,7 +200,7 @@ pub along-orderly : (Q : Machine → List Ask → List Entry → Type 0) → ((m
 along-orderly Q none more m bs xs h run =
     along-entries (λ m bs xs. Orderly m → Q m bs xs) (λ m h. none m) (λ m a bs x xs next rest h.
     let s : StepCase m (step m a x) = step-case m a x h.stage next in
-    let k : Orderly (after m a x) = orderly-step m (step m a x) h s in
+    let k : Orderly (after m a x) = next-orderly m a x h next in
     more m a bs x xs h next s k (rest k)) m bs xs run h
 
 pub orderly-opens : (s : Setting) → Orderly (opening_of s)
@@ -199,4 +212,4 @@ next-case m a x h next = step-case m a x h.stage next
 
 -- every machine of a run is orderly
 pub orderly-run : (s : Setting) (bs : List Ask) (xs : List Entry) → IsRunBy (opening_of s) bs xs → Orderly (final_of s bs xs)
-orderly-run s bs xs run = along-run Orderly (λ m a x next h. orderly-step m (step m a x) h (next-case m a x h next)) (opening_of s) bs xs run (orderly-opens s)
+orderly-run s bs xs run = along-run Orderly (λ m a x next h. next-orderly m a x h next) (opening_of s) bs xs run (orderly-opens s)

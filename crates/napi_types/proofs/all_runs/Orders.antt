@@ -52,13 +52,14 @@ use Rattle.napi_types.proofs.parts.Moved.{at-state, at-cause}
 use Rattle.napi_types.proofs.environment.AnswersKeep.{course-parts}
 use Rattle.napi_types.proofs.environment.FrameChanges.{HasRegistry, registry-parts, KeepsButFrame, ended-keeps, left-parts, asked_change-fits}
 use Rattle.napi_types.proofs.environment.FrameEnds.{ended-ends}
+use Rattle.napi_types.proofs.environment.HookedSteps.{standing-holds}
 use Rattle.napi_types.proofs.environment.Registrations.{registered-holds}
 use Rattle.napi_types.proofs.environment.TornBooks.{NoneMore, asked-more, left-more, begun-more, left-above}
 use Rattle.napi_types.proofs.environment.Cases.{asked-by}
 use Rattle.napi_types.proofs.hub.HubDuties.{IsDutyOfHub, delivery-of_hub}
 use Rattle.napi_types.proofs.hub.HubKeeps.{hub_step-what}
 use Rattle.napi_types.proofs.runs.SharedSteps.{StandsStill, shares-still, moves-still, others-still, IsNoEvent, others-told, others-none}
-use Rattle.napi_types.proofs.runs.StepCases.{StepCase, calls, ends, opens, inits, begins, vanishes, shares, leaves, passes, moves, others, event_before}
+use Rattle.napi_types.proofs.runs.StepCases.{StepCase, calls, ends, opens, inits, begins, vanishes, shares, leaves, passes, moves, others, event_before, abandons}
 use Rattle.napi_types.proofs.all_runs.Orderly.{IsSpent, Orderly, late-tears, is_drained, orderly-opens, along-orderly}
 
 -- LISTS OF TICKETS
@@ -85,20 +86,11 @@ rise-more A B _ ns wider (one_ticket n here) rest =
 
 -- THE HOOKS
 -- a hook of the list has the ticket
-abbrev IsHookIn : List Hook → ℕ → Type 0
+abbrev pub IsHookIn : List Hook → ℕ → Type 0
 IsHookIn hooks n = has (λ h. h.ticket) n hooks ≡ true
 
--- what holds of the ticket of every hook holds of that one
-hook-holds : (P : ℕ → Type 0) (n : ℕ) (hooks : List Hook) → All (λ h. P h.ticket) hooks → IsHookIn hooks n → P n
-hook-holds P n [] all is = cc
-hook-holds P n (h ∷ hooks) all is =
-    elim (or_cases (h.ticket == n) (has (λ k. k.ticket) n hooks) is) [
-      | inl same ↦ subst P (eqb-true h.ticket n same) (All-head (λ (k : Hook). P k.ticket) h hooks all)
-      | inr later ↦ hook-holds P n hooks (All-tail (λ (k : Hook). P k.ticket) h hooks all) later
-    ]
-
 -- the hook that was added last is one of them, and has the highest ticket
-last-among : (hooks : List Hook) (n : ℕ) → option_map (λ (h : Hook). h.ticket) (last_hook hooks) ≡ Some n → IsHookIn hooks n
+pub last-among : (hooks : List Hook) (n : ℕ) → option_map (λ (h : Hook). h.ticket) (last_hook hooks) ≡ Some n → IsHookIn hooks n
 last-among [] n last = cc
 last-among (h ∷ []) n last = or_left (h.ticket == n) false (eq-eqb h.ticket n (same_Some h.ticket n last))
 last-among (h ∷ g ∷ hooks) n last = or_right (h.ticket == n) (has (λ k. k.ticket) n (g ∷ hooks)) (last-among (g ∷ hooks) n last)
@@ -130,18 +122,18 @@ left-below : (hooks : List Hook) (n : ℕ) → TicketsRise (map (λ h. h.ticket)
     → (k : ℕ) → IsHookIn (without_hook n hooks) k → k < n
 left-below hooks n rise last k is =
     let left : IsHookIn hooks k × ((k == n) ≡ false) = left-among n k hooks is in
-    below-last n k (hook-holds (λ t. t ≤ n) k hooks (last-highest hooks n rise last) left.0) left.1
+    below-last n k (standing-holds (λ t. t ≤ n) k hooks (last-highest hooks n rise last) left.0) left.1
 
 -- WHAT AN ENTRY TELLS
 -- the ticket whose frame begins at the entry, where it is one; the same where it is a hook's
-abbrev tickets_told : Entry → List ℕ
+abbrev pub tickets_told : Entry → List ℕ
 tickets_told x = cond (is_begin x.what) (told_ticket x.reply.out) []
 
 abbrev hooks_told : Entry → List ℕ
 hooks_told x = cond (is_begin x.what) (told_hook x.reply.out) []
 
 -- no frame of a ticket begins at the entry, and it is not `finals`
-record IsPlain (x : Entry) : Type 0 where
+pub record IsPlain (x : Entry) : Type 0 where
   pub tickets : tickets_told x ≡ []
   pub hooks : hooks_told x ≡ []
   pub finals : is_finals x.what ≡ false
@@ -166,7 +158,7 @@ ended-plain v cut e = plain-by (end_change v cut e).entry (what.Host host.End) (
 hub-plain : (h : Hub) (x : Entry) (w : What) → x.what ≡ w → IsNoEvent w → IsPlain (hub_step h x).entry
 hub-plain h x w is none = plain-by (hub_step h x).entry w (hub_step-what h x ∙ is) none
 
-shares-plain : (m : Machine) (c : Call) (o : Out) → IsPlain (hub_step m.hub (shared_entry m.env c o)).entry
+pub shares-plain : (m : Machine) (c : Call) (o : Out) → IsPlain (hub_step m.hub (shared_entry m.env c o)).entry
 shares-plain m c o = hub-plain m.hub (shared_entry m.env c o) (what.Call c) refl (record { begins = refl; finals = refl })
 
 leaves-plain : (m : Machine) (v : Option HandleId) (cut : Option Why) → IsPlain (hub_step m.hub (end_change v cut m.env).entry).entry
@@ -185,7 +177,7 @@ delivered-plain : (d : DueInfo) → IsDutyOfHub d → IsPlain (delivery_entry d)
 delivered-plain d of =
     record { tickets = delivered-ticket d.cause d.addon d.entry d.duty of.ours; hooks = delivered-hook d.cause d.addon d.entry d.duty of.ours; finals = refl }
 
-moves-plain : (m : Machine) (move : HubMove) → hub_move m.hub ≡ Some move → IsPlain (move_step m move).entry
+pub moves-plain : (m : Machine) (move : HubMove) → hub_move m.hub ≡ Some move → IsPlain (move_step m move).entry
 moves-plain m (Delivers d) next =
     let same : (move_step m (Delivers d)).entry ≡ delivery_entry d = ap (λ o. (begin_step m.hub (delivery_entry d) o).entry) next in
     subst IsPlain (sym same) (delivered-plain d (delivery-of_hub m.hub d next))
@@ -194,10 +186,10 @@ moves-plain m (Closes n) next =
 moves-plain m (Finishes n) next =
     hub-plain m.hub (host_entry host.FinishTsfn (out.Function (record { 0 = n }))) (what.Host host.FinishTsfn) refl (record { begins = refl; finals = refl })
 
-others-plain : (m : Machine) (x : Entry) → is_environment x.actor ≡ false → IsTrue (other_step m x).may → IsPlain (other_step m x).entry
+pub others-plain : (m : Machine) (x : Entry) → is_environment x.actor ≡ false → IsTrue (other_step m x).may → IsPlain (other_step m x).entry
 others-plain m x other may = hub-plain m.hub x x.what refl (others-none x.what (others-told m.hub x other (and-right (has_room m x.what) (hub_step m.hub x).may may)))
 
-passed-begins : (p : Phase) → is_begin (what.Host (event_before p)) ≡ false
+pub passed-begins : (p : Phase) → is_begin (what.Host (event_before p)) ≡ false
 passed-begins phase.Init = refl
 passed-begins _ = refl
 
@@ -207,13 +199,13 @@ passed-finals _ is = cc
 
 -- WHICH HOOKS MAY BEGIN
 -- up to the end of the loop each may, then those of the list, and from the drain on none
-abbrev MayBegin : Phase → List Hook → ℕ → Type 0
+abbrev pub MayBegin : Phase → List Hook → ℕ → Type 0
 MayBegin phase.Init hooks n = Unit {0}
 MayBegin phase.Live hooks n = Unit {0}
 MayBegin phase.Hooks hooks n = IsHookIn hooks n
 MayBegin _ hooks n = ⊥
 
-abbrev MayBeginAt : Environment → ℕ → Type 0
+abbrev pub MayBeginAt : Environment → ℕ → Type 0
 MayBeginAt e n = MayBegin e.phase e.hooks n
 
 -- they are no more where the phase stays and the list has no hook more, and where the next phase starts
@@ -248,7 +240,7 @@ IsHookAt book n = (cause_at book n ≡ Some cause.Hook) × (is_at is_registered 
 
 hook-stands : (e : Environment) (n : ℕ) → IsHooked e → is_from_finals_on e.phase ≡ false → IsHookIn e.hooks n → IsHookAt e.book n
 hook-stands e n hooked early is =
-    hook-holds (IsHookAt e.book) n e.hooks (All-weaker (StandsIn e.phase e.book) (λ h. IsHookAt e.book h.ticket) (λ h stands. (stands.cause, stands.registered early)) e.hooks hooked.hooks) is
+    standing-holds (IsHookAt e.book) n e.hooks (All-weaker (StandsIn e.phase e.book) (λ h. IsHookAt e.book h.ticket) (λ h stands. (stands.cause, stands.registered early)) e.hooks hooked.hooks) is
 
 -- a hook after a call in Hooks was one before: no call adds one then
 hooks-called : (e d : Environment) (n : ℕ) → IsHooked e → IsHooked d → NoneMore e.book d.book → is_from_finals_on e.phase ≡ false
@@ -273,7 +265,7 @@ still-fewer m n still t may =
     phase-stays m.env.phase n.env.phase m.env.hooks n.env.hooks t still.phase (λ p is. ap (λ hooks. has (λ (h : Hook). h.ticket) t hooks) (sym same.hooks) ∙ is) may
 
 -- after a step no hook may begin that might not before
-hooks-fewer : (m : Machine) (s : Step) → Orderly m → Orderly s.after → StepCase m s → (n : ℕ) → MayBeginAt s.after.env n → MayBeginAt m.env n
+pub hooks-fewer : (m : Machine) (s : Step) → Orderly m → Orderly s.after → StepCase m s → (n : ℕ) → MayBeginAt s.after.env n → MayBeginAt m.env n
 hooks-fewer m _ h k (calls c n may alone) t may_then =
     let d : Environment = (asked_change m.env c n).after in
     let same : d.phase ≡ m.env.phase = (course-parts m.env d (asked_change-fits m.env c n).course).phase in
@@ -289,6 +281,7 @@ hooks-fewer m _ h k (vanishes last) t may_then = absurd may_then
 hooks-fewer m s h k (shares c o shared answers) t may_then = still-fewer m s.after (shares-still m c o) t may_then
 hooks-fewer m s h k (leaves v cut may ours) t may_then = ended-fewer m.env v cut t may_then
 hooks-fewer m _ h k (passes p o q) t may_then = phase-passed m.env.phase p m.env.hooks t q.next may_then
+hooks-fewer m _ h k (abandons here far none alone) t may_then = may_then
 hooks-fewer m s h k (moves move next moving alone) t may_then = still-fewer m s.after (moves-still m move) t may_then
 hooks-fewer m s h k (others x other) t may_then = still-fewer m s.after (others-still m x other) t may_then
 
@@ -336,6 +329,7 @@ hooks-next m _ h (vanishes last) comes = no_ticket
 hooks-next m _ h (shares c o shared answers) comes = none-told _ _ (shares-plain m c o).hooks
 hooks-next m _ h (leaves v cut may ours) comes = none-told _ _ (leaves-plain m v cut).hooks
 hooks-next m _ h (passes p o q) comes = none-told _ _ (ap hooks_told q.entry ∙ ap (λ b. cond b (told_hook o) []) (passed-begins p))
+hooks-next m _ h (abandons here far none alone) comes = no_ticket
 hooks-next m _ h (moves move next moving alone) comes = none-told _ _ (moves-plain m move next).hooks
 hooks-next m _ h (others x other) comes = none-told _ _ (others-plain m x other comes).hooks
 

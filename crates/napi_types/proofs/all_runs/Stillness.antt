@@ -12,13 +12,13 @@ use Rattle.napi_types.specs.declared.entry.Phase.TheVariants as phase
 use Rattle.napi_types.specs.plain.Lists.{is_empty}
 use Rattle.napi_types.specs.parts.Pool.{executed_by, value_of_work}
 use Rattle.napi_types.specs.environment.Environment.{Environment}
-use Rattle.napi_types.specs.hub.Hub.{Hub, Stage, Before, Live, LoopEnded, Drained, Final, is_past_drain, IsStageOf}
+use Rattle.napi_types.specs.hub.Hub.{Hub, Stage, Before, Live, LoopEnded, Drained, Final, is_past_drain, IsStageOf, HooksAbandoned}
 use Rattle.napi_types.specs.hub.HubMoves.{HubMove, hub_move, is_idle, is_quiet, is_spent}
 use Rattle.napi_types.specs.hub.HubStep.{actor_told}
 use Rattle.napi_types.specs.hub.Waits.{ThreadGoesOn, WorkerGoesOn, SomebodyGoesOn}
 use Rattle.napi_types.specs.hub.WorkerSteps.{is_worker_there, start_step, work_end_step}
 use Rattle.napi_types.specs.runs.Choice.{local_choice, local_choice_in, hub_choice, hub_choice_at, waiting_hooks}
-use Rattle.napi_types.specs.runs.Loop.{Event, ticket_choice, Moves, EndsLoop, FinalsCome, IsGone}
+use Rattle.napi_types.specs.runs.Loop.{Event, ticket_choice, Moves, EndsLoop, FinalsCome, IsGone, Abandons, Drains}
 use Rattle.napi_types.specs.runs.Machine.{Machine}
 use Rattle.napi_types.specs.runs.Setting.{opening_of, final_of}
 use Rattle.napi_types.specs.all_runs.Goings.{SomebodyAlwaysGoesOn, AnotherGoesOn, RunsNeverStandStill}
@@ -29,6 +29,7 @@ use Rattle.napi_types.proofs.hub.ServingWorkers.{IsServing, step-serves, executi
 use Rattle.napi_types.proofs.hub.Waits.{loop-goes-on, drained-goes-on}
 use Rattle.napi_types.proofs.runs.HubsOfRuns.{hub-kept}
 use Rattle.napi_types.proofs.all_runs.Orderly.{orderly-run}
+use Rattle.std.specs.Prelude.{◌==◌}
 
 -- WHERE THE HUB HAS NO EVENT
 unmoved : (o : Option HubMove) (p : Option Event) → option_or (option_map Moves o) p ≡ None → o ≡ None
@@ -42,6 +43,11 @@ not-quiet None true quiet none = cc
 not-quiet None false true none = cc
 not-quiet None false false none = refl
 
+not-still : (o : Option HubMove) (quiet : Bool) → option_or (option_map Moves o) (cond quiet (Some Abandons) None) ≡ None → quiet ≡ false
+not-still (Some move) quiet none = cc
+not-still None true none = cc
+not-still None false none = refl
+
 not-spent : (o : Option HubMove) (spent : Bool) → option_or (option_map Moves o) (cond spent (Some FinalsCome) None) ≡ None → spent ≡ false
 not-spent (Some move) spent none = cc
 not-spent None true none = cc
@@ -54,7 +60,15 @@ module _ (h : Hub) (waiting : ℕ) (shut : IsShut h) (staffed : IsStaffed h) (se
   stage-goes Live far never none =
       loop-goes-on h (unmoved (hub_move h) _ none) (rw far refl) (shut ∙ ap is_past_drain far) staffed serving
       (not-quiet (hub_move h) (is_idle h) (is_quiet h) none)
-  stage-goes LoopEnded far never none = cc
+  stage-goes LoopEnded far never none = hooks-go (waiting == 0) none
+    where
+      hooks-go : (unwaited : Bool) → cond unwaited (Some Drains) (option_or (option_map Moves (hub_move h)) (cond (is_quiet h) (Some Abandons) None)) ≡ None
+          → SomebodyGoesOn h
+      hooks-go true none = cc
+      hooks-go false none =
+          loop-goes-on h (unmoved (hub_move h) _ none) (rw far refl) (shut ∙ ap is_past_drain far) staffed serving
+          (not-still (hub_move h) (is_quiet h) none)
+  stage-goes HooksAbandoned far never none = cc
   stage-goes Drained far never none =
       drained-goes-on h (unmoved (hub_move h) _ none) (rw far refl) (shut ∙ ap is_past_drain far) serving (not-spent (hub_move h) (is_spent h) none)
   stage-goes Final far never none = absurd (never refl)

@@ -57,6 +57,7 @@ may-withdraw : (c : Call) → withdraws c ≡ true → may_withdraw (what.Call c
 may-withdraw (call.RemoveWrap v) may = refl
 may-withdraw (call.SetInstanceData payload entry hint) may = refl
 may-withdraw (call.RemoveEnvCleanupHook entry argument) may = refl
+may-withdraw (call.RemoveAsyncCleanupHook hook) may = refl
 may-withdraw c may = cc
 
 told-rightly : (c : Call) (r : Reply) → MayReply c r → Rightly (what.Call c) r

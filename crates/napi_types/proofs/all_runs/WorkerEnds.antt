@@ -26,7 +26,7 @@ use Rattle.napi_types.specs.hub.GivenSteps.{fits_stage, is_fresh_work, given_ste
 use Rattle.napi_types.specs.hub.HistoryRoom.{work_places, function_places, reserved_history}
 use Rattle.napi_types.specs.hub.Hub.{Hub, left_of, threads_left, workers_left, stage_places}
 use Rattle.napi_types.specs.hub.HubCalls.{hub_answer, is_thread_call}
-use Rattle.napi_types.specs.hub.HubEvents.{environment_event, loop_end_step, begin_step, close_step, finish_step, frame_end_step}
+use Rattle.napi_types.specs.hub.HubEvents.{environment_event, loop_end_step, begin_step, close_step, finish_step, frame_end_step, abandon_step}
 use Rattle.napi_types.specs.hub.HubMoves.{HubMove, Delivers, Closes, Finishes, without_duty, hub_move}
 use Rattle.napi_types.specs.hub.HubStep.{answered_step}
 use Rattle.napi_types.specs.hub.HubSteps.{hub_step, hub_step_of, environment_step}
@@ -40,7 +40,7 @@ use Rattle.napi_types.specs.all_runs.OnceLaws.{WorkersFinishWhatTheyStart}
 use Rattle.napi_types.proofs.plain.Found.{has-with_number}
 use Rattle.napi_types.proofs.plain.Conditions.{and-false}
 use Rattle.napi_types.proofs.all_runs.ThreadsEnd.{some-left}
-use Rattle.napi_types.proofs.hub.HubCases.{HubCase, hub-case, asks, creates_work, deletes_work, cancels_work, queues_work, creates_function, alters, goes, ends_loop, drains, comes_to_finals, delivers, closes, finishes, ends, thread_ends, worker_ends, starts, finishes_work}
+use Rattle.napi_types.proofs.hub.HubCases.{HubCase, hub-case, asks, creates_work, deletes_work, cancels_work, queues_work, creates_function, alters, goes, ends_loop, drains, comes_to_finals, delivers, closes, finishes, ends, thread_ends, worker_ends, starts, finishes_work, abandons}
 use Rattle.napi_types.proofs.hub.HubKeeps.{hub_step-what}
 use Rattle.napi_types.proofs.hub.WorkerTurns.{WorkerStands, StandsSo, next-stands}
 use Rattle.napi_types.proofs.runs.HubEntries.{EntryOf, leaves_hub, steps_hub, case-of}
@@ -87,9 +87,14 @@ end-actor : (h : Hub) (x : Entry) (o : Option DueInfo) → x.actor ≡ actor.Env
 end-actor h x None is = refl
 end-actor h x (Some d) is = sym is
 
+abandon-actor : (h : Hub) (x : Entry) (o : Out) → x.actor ≡ actor.Env → (abandon_step h x o).entry.actor ≡ x.actor
+abandon-actor h x (out.Unsigned n) is = sym is
+abandon-actor h x _ is = refl
+
 event-actor : (h : Hub) (x : Entry) (event : HostStep) → x.actor ≡ actor.Env → (environment_event h x event).entry.actor ≡ x.actor
 event-actor h x host.Go is = sym is
 event-actor h x host.LoopEnd is = loop_end-actor h x x.reply.out is
+event-actor h x host.Abandon is = abandon-actor h x x.reply.out is
 event-actor h x host.Drain is = sym is
 event-actor h x host.Finals is = sym is
 event-actor h x host.Begin is = begin-actor h x (hub_move h) is
@@ -163,6 +168,7 @@ case-ended h x told _ none (queues_work w is free early) = record { ended = refl
 case-ended h x told _ none (creates_function f entry maximum count finalizer context addon target is early) = record { ended = refl; workers = refl }
 case-ended h x told _ none (alters c k f change is there how) = record { ended = refl; workers = refl }
 case-ended h x told _ none (goes is may) = record { ended = refl; workers = refl }
+case-ended h x told _ none (abandons is may still) = record { ended = refl; workers = refl }
 case-ended h x told _ none (ends_loop is may) = record { ended = refl; workers = refl }
 case-ended h x told _ none (drains is may) = record { ended = refl; workers = refl }
 case-ended h x told _ none (comes_to_finals is may) = record { ended = refl; workers = refl }

@@ -14,6 +14,7 @@ use Rattle.napi_types.specs.declared.status.Status.TheVariants as status
 use Rattle.napi_types.specs.plain.Guards.{is_registering}
 use Rattle.napi_types.specs.plain.Replies.{Answer, accepts}
 use Rattle.napi_types.specs.plain.Room.{one_if, need}
+use Rattle.napi_types.specs.parts.AsyncHooks.{AsyncHook, set_ticket, with_removed}
 use Rattle.napi_types.specs.parts.Book.{Book, owed_tickets}
 use Rattle.napi_types.specs.parts.Frames.{Frame, caller_of, ask_counted, is_hub_duty, local_frames}
 use Rattle.napi_types.specs.parts.Heap.{Heap, handle_properties}
@@ -162,9 +163,9 @@ keeps-parts : (e : Environment) (heap : Heap) (m : ReferenceMap) (p : Option ℕ
 keeps-parts e heap m p h issued = record { course = refl; frames = refl; heap = h; references = issued; book = stays e.book refl }
 
 -- the book changes
-keeps-book : {made dropped : Option Duty} (e : Environment) (book : Book) (hooks : List Hook) → BookStep (caller_of e.frames) e.book made dropped book
-    → KeepsBy e made dropped (record e { book = book; hooks = hooks })
-keeps-book e book hooks step = record { course = refl; frames = refl; heap = same e.heap; references = omega arith; book = step }
+keeps-book : {made dropped : Option Duty} (e : Environment) (book : Book) (hooks : List Hook) (others : List AsyncHook)
+    → BookStep (caller_of e.frames) e.book made dropped book → KeepsBy e made dropped (record e { book = book; hooks = hooks; async_hooks = others })
+keeps-book e book hooks others step = record { course = refl; frames = refl; heap = same e.heap; references = omega arith; book = step }
 
 thrown-keeps : (heap : Heap) (code : Option TextNo) (message : TextNo) → HeapKeeps heap (with_thrown code message heap)
 thrown-keeps heap None message = in-scopes-made heap _ refl (omega arith) (omega arith) (omega arith)
@@ -172,7 +173,7 @@ thrown-keeps heap (Some code) message = in-scopes-made heap _ refl (omega arith)
 
 does-keeps : (c : Call) (e : Environment) {made dropped : Option Duty} (d : Environment) → refusal_in e.texts e.heap c ≡ None → Effect c e made dropped d
     → KeepsBy e made dropped d
-does-keeps c e _ none does.rests = keeps-book e e.book e.hooks (stays e.book refl)
+does-keeps c e _ none does.rests = keeps-book e e.book e.hooks e.async_hooks (stays e.book refl)
 does-keeps c e _ none (does.tells n) = keeps-parts e _ _ _ (addon_effect-keeps e.texts (caller_of e.frames) e.heap c n none) (omega arith)
 does-keeps c e _ none (does.makes payload) = keeps-parts e _ _ _ (handled e.heap _ _ refl refl refl (omega arith)) (omega arith)
 does-keeps c e _ none (does.throws h) = keeps-parts e _ _ _ (same e.heap) (omega arith)
@@ -184,12 +185,18 @@ does-keeps c e _ none (does.deletes r) = keeps-parts e _ _ _ (same e.heap) (omeg
 does-keeps c e _ none (does.counts r count) = keeps-parts e _ _ _ (same e.heap) (omega arith)
 does-keeps c e _ none does.collects =
     record { course = refl; frames = refl; heap = in-scopes e.heap _ refl (omega arith) (omega arith) refl; references = omega arith; book = collects _ _ refl }
-does-keeps c e _ none (does.adds_hook entry argument) = keeps-book e _ _ (adds _ _ refl refl (λ h. cc) refl)
+does-keeps c e _ none (does.adds_hook entry argument) = keeps-book e _ _ _ (adds _ _ refl refl (λ h. cc) refl)
 does-keeps c e _ none (does.removes_hook entry argument) =
     let o : Option ℕ = hook_ticket (caller_of e.frames) entry argument e.hooks in
-    registered-by e.book o (λ t. KeepsTheRest e (withdrawing t (accepts out.Nothing (record e { hooks = unhooked o e.hooks })))) (keeps-book e _ _ (stays e.book refl))
-    (λ t here is. keeps-book e _ _ (drops t _ is refl))
-does-keeps c e _ none (does.withdraws t on is) = keeps-book e _ _ (drops t _ is refl)
+    registered-by e.book o (λ t. KeepsTheRest e (withdrawing t (accepts out.Nothing (record e { hooks = unhooked o e.hooks })))) (keeps-book e _ _ _ (stays e.book refl))
+    (λ t here is. keeps-book e _ _ _ (drops t _ is refl))
+does-keeps c e _ none (does.adds_async entry argument number is) = keeps-book e _ _ _ (adds _ _ refl refl (λ h. cc) refl)
+does-keeps c e _ none (does.removes_async number) =
+    let o : Option ℕ = set_ticket number e.async_hooks in
+    let left : Environment = record e { hooks = unhooked o e.hooks; async_hooks = with_removed number e.async_hooks } in
+    registered-by e.book o (λ t. KeepsTheRest e (withdrawing t (accepts out.Nothing left))) (keeps-book e _ _ _ (stays e.book refl))
+    (λ t here is. keeps-book e _ _ _ (drops t _ is refl))
+does-keeps c e _ none (does.withdraws t on is) = keeps-book e _ _ _ (drops t _ is refl)
 does-keeps c e _ none (does.asks_exit is) = record { course = refl; frames = refl; heap = same e.heap; references = omega arith; book = stays e.book refl }
 does-keeps c e _ none (does.registers {d} payload entry hint before step) =
     let k : KeepsBy e _ _ d = does-keeps c e d none before in
@@ -209,7 +216,7 @@ unrefused e c h =
 
 pub answer-keeps : (e : Environment) (c : Call) (n : ℕ) → KeepsTheRest e (answer e c n)
 answer-keeps e c n =
-    answer-by e c n (KeepsTheRest e) (λ s. keeps-book e e.book e.hooks (stays e.book refl)) (λ s. keeps-parts e _ _ _ (thrown-keeps e.heap None _) (omega arith))
+    answer-by e c n (KeepsTheRest e) (λ s. keeps-book e e.book e.hooks e.async_hooks (stays e.book refl)) (λ s. keeps-parts e _ _ _ (thrown-keeps e.heap None _) (omega arith))
     (λ none. does-keeps c e (effect e c n).after (unrefused e c none) (effect-of e c n))
 
 -- WHAT IS MADE

@@ -9,6 +9,7 @@ use Rattle.napi_types.specs.declared.ids.HandleId.{HandleId}
 use Rattle.napi_types.specs.declared.status.Status.{Status}
 use Rattle.napi_types.specs.plain.Replies.{accepts}
 use Rattle.napi_types.specs.plain.Lists.{tail}
+use Rattle.napi_types.specs.parts.AsyncHooks.{AsyncHook, set_ticket, with_removed}
 use Rattle.napi_types.specs.parts.Attachments.{Attachments}
 use Rattle.napi_types.specs.parts.Book.{Book}
 use Rattle.napi_types.specs.parts.Frames.{Frame, caller_of}
@@ -36,6 +37,7 @@ pub data Changed (c : Call) (e : Environment) : Environment → Type 0 where
   attachments : (d : Environment) (a : Attachments) → Changed c e d → Changed c e (record d { attachments = a })
   book : (d : Environment) (b : Book) → Changed c e d → Changed c e (record d { book = b })
   hooks : (d : Environment) (hs : List Hook) → Changed c e d → Changed c e (record d { hooks = hs })
+  async_hooks : (d : Environment) (hs : List AsyncHook) → Changed c e d → Changed c e (record d { async_hooks = hs })
   instances : (d : Environment) (i : Instances) → Changed c e d → Changed c e (record d { instances = i })
   pending : (d : Environment) (p : Option ℕ) → Changed c e d → Changed c e (record d { pending = p })
   last : (d : Environment) (s : Status) → Changed c e d → Changed c e (record d { last = s })
@@ -49,6 +51,7 @@ pub record Ignores {A : Type 0} (f : Environment → A) : Type 0 where
   pub attachments : (d : Environment) (a : Attachments) → f (record d { attachments = a }) ≡ f d
   pub book : (d : Environment) (b : Book) → f (record d { book = b }) ≡ f d
   pub hooks : (d : Environment) (hs : List Hook) → f (record d { hooks = hs }) ≡ f d
+  pub async_hooks : (d : Environment) (hs : List AsyncHook) → f (record d { async_hooks = hs }) ≡ f d
   pub instances : (d : Environment) (i : Instances) → f (record d { instances = i }) ≡ f d
   pub pending : (d : Environment) (p : Option ℕ) → f (record d { pending = p }) ≡ f d
   pub last : (d : Environment) (s : Status) → f (record d { last = s }) ≡ f d
@@ -63,6 +66,7 @@ changed-keeps f c e _ i x (references d m r) = i.references d m ∙ changed-keep
 changed-keeps f c e _ i x (attachments d a r) = i.attachments d a ∙ changed-keeps f c e d i x r
 changed-keeps f c e _ i x (book d b r) = i.book d b ∙ changed-keeps f c e d i x r
 changed-keeps f c e _ i x (hooks d hs r) = i.hooks d hs ∙ changed-keeps f c e d i x r
+changed-keeps f c e _ i x (async_hooks d hs r) = i.async_hooks d hs ∙ changed-keeps f c e d i x r
 changed-keeps f c e _ i x (instances d j r) = i.instances d j ∙ changed-keeps f c e d i x r
 changed-keeps f c e _ i x (pending d p r) = i.pending d p ∙ changed-keeps f c e d i x r
 changed-keeps f c e _ i x (last d s r) = i.last d s ∙ changed-keeps f c e d i x r
@@ -88,6 +92,15 @@ does-changed c e _ (does.removes_hook entry argument) =
     let t : Option ℕ = hook_ticket (caller_of e.frames) entry argument e.hooks in
     registered-by e.book t (λ s. Changed c e (withdrawing s (accepts out.Nothing (record e { hooks = unhooked t e.hooks }))).after)
     (hooks e _ stays) (λ n here is. book (record e { hooks = _ }) _ (hooks e _ stays))
+does-changed c e _ (does.adds_async entry argument number is) =
+    book (record e { hooks = _; async_hooks = _ }) _ (async_hooks (record e { hooks = _ }) _ (hooks e _ stays))
+does-changed c e _ (does.removes_async number) =
+    let t : Option ℕ = set_ticket number e.async_hooks in
+    let left : List AsyncHook = with_removed number e.async_hooks in
+    let changed : Changed c e (record e { hooks = unhooked t e.hooks; async_hooks = left }) = async_hooks (record e { hooks = _ }) left (hooks e _ stays) in
+    registered-by e.book t
+    (λ s. Changed c e (withdrawing s (accepts out.Nothing (record e { hooks = unhooked t e.hooks; async_hooks = left }))).after)
+    changed (λ n here is. book (record e { hooks = _; async_hooks = left }) _ changed)
 does-changed c e _ (does.withdraws t on is) = book e _ stays
 does-changed c e _ (does.asks_exit is) = exits e is stays
 does-changed c e _ (does.registers {d} payload entry hint before step) = book d _ (does-changed c e d before)

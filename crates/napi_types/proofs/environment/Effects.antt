@@ -23,7 +23,7 @@ use Rattle.napi_types.specs.environment.Calls.{effect}
 use Rattle.napi_types.specs.environment.Collection.{collected}
 use Rattle.napi_types.specs.environment.Environment.{Environment, with_heap}
 use Rattle.napi_types.specs.environment.ExceptionCalls.{with_pending, with_thrown_error}
-use Rattle.napi_types.specs.environment.HookCalls.{hooking, unhooking}
+use Rattle.napi_types.specs.environment.HookCalls.{hooking, async_hooking, unhooking, async_unhooking}
 use Rattle.napi_types.specs.environment.ReferenceCalls.{with_references, value_told, counted_up}
 use Rattle.napi_types.specs.environment.Registering.{finalizer_of, registering, registered_only, withdrawing}
 use Rattle.napi_types.specs.environment.Roots.{reach}
@@ -72,6 +72,9 @@ pub data Effect (c : Call) (e : Environment) : Option Duty → Option Duty → E
   adds_hook : (entry argument : ℕ) → Effect c e (Some (ticket_duty (new_ticket e.book))) None (hooking e (caller_of e.frames) entry argument).after
   removes_hook : (entry argument : ℕ)
       → Effect c e (removing e entry argument).reply.made (removing e entry argument).reply.dropped (removing e entry argument).after
+  adds_async : (entry argument number : ℕ) → c ≡ call.AddAsyncCleanupHook entry argument
+      → Effect c e (Some (ticket_duty (new_ticket e.book))) None (async_hooking e (caller_of e.frames) entry argument number).after
+  removes_async : (number : ℕ) → Effect c e (async_unhooking e number).reply.made (async_unhooking e number).reply.dropped (async_unhooking e number).after
   withdraws : (t : ℕ) → HangsOn e t → is_at is_registered e.book t ≡ true
       → Effect c e None (Some (ticket_duty t)) (record e { book = moved_at made_withdrawn t e.book })
   asks_exit : c ≡ call.Exit → Effect c e None None (record e { exit_asked = true })
@@ -171,6 +174,8 @@ effect-of e (call.SetInstanceData payload (Some entry) hint) n =
 effect-of e call.GetInstanceData n = rests
 effect-of e (call.AddEnvCleanupHook entry argument) n = adds_hook entry argument
 effect-of e (call.RemoveEnvCleanupHook entry argument) n = removes_hook entry argument
+effect-of e (call.AddAsyncCleanupHook entry argument) n = adds_async entry argument n refl
+effect-of e (call.RemoveAsyncCleanupHook hook) n = removes_async hook.0
 effect-of e call.Collect n = collects
 effect-of e call.Exit n = asks_exit refl
 effect-of e c n = tells n

@@ -32,6 +32,7 @@ pub record HasRegistry (r : Registry) (e : Environment) : Type 0 where
   pub attachments : e.attachments ≡ r.attachments
   pub book : e.book ≡ r.book
   pub hooks : e.hooks ≡ r.hooks
+  pub async_hooks : e.async_hooks ≡ r.async_hooks
   pub instances : e.instances ≡ r.instances
 
 pub registry-parts : (r : Registry) (e : Environment) → registry_of e ≡ r → HasRegistry r e
@@ -39,6 +40,7 @@ registry-parts r e same = record {
   attachments = ap (λ (s : Registry). s.attachments) same;
   book = ap (λ (s : Registry). s.book) same;
   hooks = ap (λ (s : Registry). s.hooks) same;
+  async_hooks = ap (λ (s : Registry). s.async_hooks) same;
   instances = ap (λ (s : Registry). s.instances) same;
 }
 

@@ -40,6 +40,7 @@ makes-ticket e (call.SetInstanceData payload (Some entry) hint) n makes local =
     ap (λ k. Some (ticket_duty k)) (withdrawn-ticket (registered_only e.book (instance_ticket e.instances (caller_of e.frames))) _)
 makes-ticket e (call.SetInstanceData payload None hint) n makes local = cc
 makes-ticket e (call.AddEnvCleanupHook entry argument) n makes local = refl
+makes-ticket e (call.AddAsyncCleanupHook entry argument) n makes local = refl
 makes-ticket e (call.CreateThreadsafeFunction f entry maximum count finalizer context) n makes local = cc
 makes-ticket e _ n makes local = cc
 

@@ -18,6 +18,7 @@ use Rattle.napi_types.specs.declared.entry.Phase.{Phase}
 use Rattle.napi_types.specs.declared.entry.Cause.TheVariants as cause
 use Rattle.napi_types.specs.plain.Lists.{tail, has_number}
 use Rattle.napi_types.specs.plain.Replies.{accepts}
+use Rattle.napi_types.specs.parts.AsyncHooks.{set_ticket, with_removed}
 use Rattle.napi_types.specs.parts.Bodies.{is_function, function_addon, text_of}
 use Rattle.napi_types.specs.parts.Book.{Registration, registration_at, due_info}
 use Rattle.napi_types.specs.parts.Frames.{Frame, frame_of, frame_of_duty, caller_of, ask_counted, asks_made, most_asks}
@@ -158,6 +159,10 @@ does-owned n c e _ there all (does.removes_hook entry argument) =
     let t : Option ℕ = hook_ticket (caller_of e.frames) entry argument e.hooks in
     registered-by e.book t (λ s. AreOwned n (withdrawing s (accepts out.Nothing (record e { hooks = unhooked t e.hooks }))).after.heap.values) all
     (λ k here is. all)
+does-owned n c e _ there all (does.removes_async number) =
+    let t : Option ℕ = set_ticket number e.async_hooks in
+    let left : Environment = record e { hooks = unhooked t e.hooks; async_hooks = with_removed number e.async_hooks } in
+    registered-by e.book t (λ s. AreOwned n (withdrawing s (accepts out.Nothing left)).after.heap.values) all (λ k here is. all)
 does-owned n c e _ there all (does.registers {d} payload entry hint before step) = does-owned n c e d there all before
 does-owned n c e _ there all (does.attaches {d} {a} before on) = does-owned n c e d there all before
 does-owned n c e _ there all (does.sets {d} i before on) = does-owned n c e d there all before

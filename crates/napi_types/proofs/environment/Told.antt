@@ -10,6 +10,7 @@ use Rattle.napi_types.specs.declared.status.Status.TheVariants as status
 use Rattle.napi_types.specs.plain.Guards.{is_registering}
 use Rattle.napi_types.specs.plain.Replies.{Answer, plain}
 use Rattle.napi_types.specs.plain.Room.{need}
+use Rattle.napi_types.specs.parts.AsyncHooks.{set_ticket}
 use Rattle.napi_types.specs.parts.Attachments.{wrap_ticket}
 use Rattle.napi_types.specs.parts.Book.{Registration}
 use Rattle.napi_types.specs.parts.Frames.{caller_of}
@@ -35,6 +36,7 @@ abbrev pub withdraws : Call → Bool
 withdraws (call.RemoveWrap v) = true
 withdraws (call.SetInstanceData payload entry hint) = true
 withdraws (call.RemoveEnvCleanupHook entry argument) = true
+withdraws (call.RemoveAsyncCleanupHook hook) = true
 withdraws _ = false
 
 -- what the call may reply
@@ -94,6 +96,9 @@ effect-told e (call.SetInstanceData payload (Some entry) hint) n =
 effect-told e (call.AddEnvCleanupHook entry argument) n = registering-told _ _ _ refl (omega arith) refl
 effect-told e (call.RemoveEnvCleanupHook entry argument) n =
     withdrawing-told _ (registered_only e.book (hook_ticket (caller_of e.frames) entry argument e.hooks)) _ refl refl (told_plain _ refl refl refl)
+effect-told e (call.AddAsyncCleanupHook entry argument) n = registering-told _ _ _ refl (omega arith) refl
+effect-told e (call.RemoveAsyncCleanupHook hook) n =
+    withdrawing-told _ (registered_only e.book (set_ticket hook.0 e.async_hooks)) _ refl refl (told_plain _ refl refl refl)
 effect-told e c n = told_plain _ refl refl refl
 
 pub answer-told : (e : Environment) (c : Call) (n : ℕ) → MayReply c (answer e c n).reply

@@ -8,12 +8,12 @@ use Rattle.napi_types.specs.declared.entry.HostStep.TheVariants as host
 use Rattle.napi_types.specs.declared.entry.Out.{Out}
 use Rattle.napi_types.specs.parts.Pool.{WorkPool, cancelled_at, number_of_work, started_from, finished_at, executed_by}
 use Rattle.napi_types.specs.hub.HistoryLaws.{PoolsCloseAtTheDrain}
-use Rattle.napi_types.specs.hub.Hub.{Hub, Stage, Before, Live, LoopEnded, Drained, new_hub, stage_after, is_past_drain}
+use Rattle.napi_types.specs.hub.Hub.{Hub, Stage, Before, Live, LoopEnded, Drained, new_hub, stage_after, is_past_drain, HooksAbandoned}
 use Rattle.napi_types.specs.hub.HubMoves.{without_duty}
 use Rattle.napi_types.specs.hub.HubSteps.{hub_step, hub_along}
 use Rattle.napi_types.specs.hub.Replays.{HubReplays}
 use Rattle.napi_types.proofs.plain.Conditions.{and-left}
-use Rattle.napi_types.proofs.hub.HubCases.{HubCase, asks, creates_work, deletes_work, cancels_work, queues_work, creates_function, alters, goes, ends_loop, drains, comes_to_finals, delivers, closes, finishes, ends, thread_ends, worker_ends, starts, finishes_work, hub-case}
+use Rattle.napi_types.proofs.hub.HubCases.{HubCase, asks, creates_work, deletes_work, cancels_work, queues_work, creates_function, alters, goes, ends_loop, drains, comes_to_finals, delivers, closes, finishes, ends, thread_ends, worker_ends, starts, finishes_work, hub-case, abandons}
 
 abbrev pub IsShut : Hub → Type 0
 IsShut h = h.pool.closing ≡ is_past_drain h.stage
@@ -44,8 +44,13 @@ loop-past : (s : Stage) → is_some (stage_after s host.LoopEnd) ≡ true → is
 loop-past Live is = refl
 loop-past _ is = cc
 
+abandon-past : (s : Stage) → is_some (stage_after s host.Abandon) ≡ true → is_past_drain (unwrap_or (stage_after s host.Abandon) s) ≡ is_past_drain s
+abandon-past LoopEnded is = refl
+abandon-past _ is = cc
+
 drain-past : (s : Stage) → is_some (stage_after s host.Drain) ≡ true → is_past_drain (unwrap_or (stage_after s host.Drain) s) ≡ true
 drain-past LoopEnded is = refl
+drain-past HooksAbandoned is = refl
 drain-past _ is = cc
 
 finals-past : (s : Stage) → is_some (stage_after s host.Finals) ≡ true → is_past_drain (unwrap_or (stage_after s host.Finals) s) ≡ is_past_drain s
@@ -61,6 +66,7 @@ case-shut h x told _ s (queues_work w is none early) = s
 case-shut h x told _ s (creates_function f entry maximum count finalizer context addon target is early) = s
 case-shut h x told _ s (alters c k f change is there how) = s
 case-shut h x told _ s (goes is may) = s ∙ sym (go-past h.stage (and-left (is_some (stage_after h.stage host.Go)) (is_none h.standing) may))
+case-shut h x told _ s (abandons is may still) = s ∙ sym (abandon-past h.stage (and-left (is_some (stage_after h.stage host.Abandon)) (is_none h.standing) may))
 case-shut h x told _ s (ends_loop is may) = s ∙ sym (loop-past h.stage (and-left (is_some (stage_after h.stage host.LoopEnd)) (is_none h.standing) may))
 case-shut h x told _ s (drains is may) = sym (drain-past h.stage (and-left (is_some (stage_after h.stage host.Drain)) (is_none h.standing) may))
 case-shut h x told _ s (comes_to_finals is may) = s ∙ sym (finals-past h.stage (and-left (is_some (stage_after h.stage host.Finals)) (is_none h.standing) may))

@@ -22,7 +22,7 @@ use Rattle.napi_types.specs.hub.HubCalls.{new_function_number}
 use Rattle.napi_types.specs.hub.HubMoves.{in_tsfn, without_duty}
 use Rattle.napi_types.specs.hub.HubSteps.{hub_step, hub_along}
 use Rattle.napi_types.specs.hub.Replays.{HubReplays}
-use Rattle.napi_types.proofs.hub.HubCases.{Alters, calls, acquires, releases, references, unreferences, HubCase, asks, creates_work, deletes_work, cancels_work, queues_work, creates_function, alters, goes, ends_loop, drains, comes_to_finals, delivers, closes, finishes, ends, thread_ends, worker_ends, starts, finishes_work, hub-case}
+use Rattle.napi_types.proofs.hub.HubCases.{Alters, calls, acquires, releases, references, unreferences, HubCase, asks, creates_work, deletes_work, cancels_work, queues_work, creates_function, alters, goes, ends_loop, drains, comes_to_finals, delivers, closes, finishes, ends, thread_ends, worker_ends, starts, finishes_work, hub-case, abandons}
 
 -- LISTS
 parts-le : (n : ℕ) (ms : List ℕ) → length (filter (λ m. nat_lt m n) ms) + length (filter (λ m. nat_lt n m) ms) ≤ length ms
@@ -182,6 +182,7 @@ case-within n h x told _ w (creates_function f entry maximum count finalizer con
     }
 case-within n h x told _ w (alters c k f change is there how) = changed-within n f.id h change (λ g. alters-adds f g c change how) w
 case-within n h x told _ w (goes is may) = let k = more-within n h w in record { issued = k.issued; numbered = k.numbered; functions = k.functions; items = k.items }
+case-within n h x told _ w (abandons is may still) = let k = more-within n h w in record { issued = k.issued; numbered = k.numbered; functions = k.functions; items = k.items }
 case-within n h x told _ w (ends_loop is may) = let k = more-within n h w in record { issued = k.issued; numbered = k.numbered; functions = k.functions; items = k.items }
 case-within n h x told _ w (drains is may) = record {
   issued = let le = w.issued in omega (arith, le);

@@ -32,7 +32,7 @@ use Rattle.napi_types.specs.hub.HubCalls.{unless_refused, on_function, tsfn_at, 
 use Rattle.napi_types.specs.hub.HubMoves.{HubMove, Delivers, Closes, Finishes, hub_move, in_pool, in_tsfn, with_delivered}
 use Rattle.napi_types.specs.hub.HubStep.{HubStep, answered_step}
 use Rattle.napi_types.specs.hub.GivenSteps.{has_loop_ended, is_failure, fits_stage, is_fresh_work, work_number, answer_unless_given, given_step}
-use Rattle.napi_types.specs.hub.HubEvents.{environment_event, staged, drained_hub, loop_end_step, begin_step, close_step, finish_step, frame_end_step}
+use Rattle.napi_types.specs.hub.HubEvents.{environment_event, staged, drained_hub, loop_end_step, begin_step, close_step, finish_step, frame_end_step, abandon_step, is_still}
 use Rattle.napi_types.specs.hub.ThreadSteps.{is_thread_there, nothing_given, thread_step, thread_event}
 use Rattle.napi_types.specs.hub.WorkerSteps.{worker_step, worker_event, start_step, work_end_step}
 use Rattle.napi_types.specs.hub.HubSteps.{hub_step, hub_step_of, environment_step}
@@ -68,6 +68,8 @@ pub data HubCase (h : Hub) (x : Entry) (told : Out) : Hub → Type 0 where
   -- the great ones
   goes : x.what ≡ what.Host host.Go → is_some (stage_after h.stage host.Go) && is_none h.standing ≡ true → HubCase h x told (staged host.Go h)
   ends_loop : x.what ≡ what.Host host.LoopEnd → is_some (stage_after h.stage host.LoopEnd) && is_none h.standing ≡ true → HubCase h x told (staged host.LoopEnd h)
+  abandons : x.what ≡ what.Host host.Abandon → is_some (stage_after h.stage host.Abandon) && is_none h.standing ≡ true → is_still h ≡ true
+      → HubCase h x told (staged host.Abandon h)
   drains : x.what ≡ what.Host host.Drain → is_some (stage_after h.stage host.Drain) && is_none h.standing ≡ true → HubCase h x told (staged host.Drain (drained_hub h))
   comes_to_finals : x.what ≡ what.Host host.Finals → is_some (stage_after h.stage host.Finals) && is_none h.standing ≡ true → HubCase h x told (staged host.Finals h)
   -- the moves of the hub, and the end of a frame of its own
@@ -168,6 +170,10 @@ loop_end-case : (h : Hub) (x : Entry) (o : Out) → x.what ≡ what.Host host.Lo
 loop_end-case h x (out.Ended w) is may = ends_loop is may
 loop_end-case h x _ is may = cc
 
+abandon-case : (h : Hub) (x : Entry) (o : Out) → x.what ≡ what.Host host.Abandon → StepsTo h x (abandon_step h x o)
+abandon-case h x (out.Unsigned n) is may = abandons is (and-left _ (is_still h) may) (and-right _ (is_still h) may)
+abandon-case h x _ is may = cc
+
 begin-case : (h : Hub) (x : Entry) (o : Option HubMove) → hub_move h ≡ o → x.what ≡ what.Host host.Begin → StepsTo h x (begin_step h x o)
 begin-case h x (Some (Delivers d)) next is may = delivers d is next (and-right _ (is_none h.standing) may)
 begin-case h x _ next is may = cc
@@ -187,6 +193,7 @@ frame_end-case h x (Some d) stands is may = ends d is stands
 event-case : (h : Hub) (x : Entry) (event : HostStep) → x.what ≡ what.Host event → StepsTo h x (environment_event h x event)
 event-case h x host.Go is may = goes is may
 event-case h x host.LoopEnd is may = loop_end-case h x x.reply.out is may
+event-case h x host.Abandon is may = abandon-case h x x.reply.out is may
 event-case h x host.Drain is may = drains is may
 event-case h x host.Finals is may = comes_to_finals is may
 event-case h x host.Begin is may = begin-case h x (hub_move h) refl is may

@@ -34,7 +34,7 @@ use Rattle.napi_types.specs.hub.HubCalls.{is_thread_call, hub_answer, unless_ref
 use Rattle.napi_types.specs.hub.HubMoves.{HubMove, Delivers, Closes, Finishes, hub_move, tsfn_move, tsfn_move_in, first_move}
 use Rattle.napi_types.specs.hub.HubStep.{answered_step}
 use Rattle.napi_types.specs.hub.GivenSteps.{given_step, work_number, answer_unless_given}
-use Rattle.napi_types.specs.hub.HubEvents.{environment_event, loop_end_step, begin_step, close_step, finish_step, frame_end_step}
+use Rattle.napi_types.specs.hub.HubEvents.{environment_event, loop_end_step, begin_step, close_step, finish_step, frame_end_step, abandon_step}
 use Rattle.napi_types.specs.hub.ThreadSteps.{is_thread_there, nothing_given, thread_step, thread_event}
 use Rattle.napi_types.specs.hub.WorkerSteps.{worker_step, worker_event, start_step, work_end_step}
 use Rattle.napi_types.specs.hub.HubSteps.{hub_step, hub_step_of, environment_step}
@@ -188,9 +188,14 @@ frame_end-spares : (h : Hub) (x : Entry) (d : Option DueInfo) → IsTrue (frame_
 frame_end-spares h x None ok = cc
 frame_end-spares h x (Some d) ok = record { dropped = refl; made = tt; begun = tt }
 
+abandon-spares : (h : Hub) (x : Entry) (o : Out) → IsTrue (abandon_step h x o).may → SparesTickets (abandon_step h x o).entry
+abandon-spares h x (out.Unsigned n) ok = record { dropped = refl; made = tt; begun = tt }
+abandon-spares h x _ ok = cc
+
 event-spares : (h : Hub) (x : Entry) (event : HostStep) → IsTrue (environment_event h x event).may → SparesTickets (environment_event h x event).entry
 event-spares h x host.Go ok = record { dropped = refl; made = tt; begun = tt }
 event-spares h x host.LoopEnd ok = loop_end-spares h x x.reply.out ok
+event-spares h x host.Abandon ok = abandon-spares h x x.reply.out ok
 event-spares h x host.Drain ok = record { dropped = refl; made = tt; begun = tt }
 event-spares h x host.Finals ok = record { dropped = refl; made = tt; begun = tt }
 event-spares h x host.Begin ok = begin-spares h x (hub_move h) refl ok

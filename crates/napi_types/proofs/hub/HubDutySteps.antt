@@ -32,7 +32,7 @@ use Rattle.napi_types.specs.parts.Works.{Work, Outcome, is_created, is_queued, i
 use Rattle.napi_types.specs.hub.GivenSteps.{answer_unless_given, work_number, given_step}
 use Rattle.napi_types.specs.hub.Hub.{Hub}
 use Rattle.napi_types.specs.hub.HubCalls.{unless_refused, on_function, tsfn_at, item_made, call_answer, called_answer, finalizer_duty, new_function_number, with_function, hub_answer, is_thread_call}
-use Rattle.napi_types.specs.hub.HubEvents.{environment_event, loop_end_step, begin_step, close_step, finish_step, frame_end_step}
+use Rattle.napi_types.specs.hub.HubEvents.{environment_event, loop_end_step, begin_step, close_step, finish_step, frame_end_step, abandon_step}
 use Rattle.napi_types.specs.hub.HubMoves.{HubMove, Delivers, Closes, Finishes, tsfn_move_in, tsfn_move, first_move, hub_move, in_pool, in_tsfn, with_delivered}
 use Rattle.napi_types.specs.hub.HubStep.{HubStep, answered_step}
 use Rattle.napi_types.specs.hub.HubSteps.{hub_step, hub_step_of, environment_step}
@@ -268,9 +268,14 @@ frame_end-duties : (h : Hub) (x : Entry) (o : Option DueInfo) → StepDuties h (
 frame_end-duties h x None ok = cc
 frame_end-duties h x (Some d) ok = keeps status.Ok _ (record { functions = refl; numbered = refl; queued = refl; executions = refl; finished = refl })
 
+abandon-duties : (h : Hub) (x : Entry) (o : Out) → StepDuties h (abandon_step h x o)
+abandon-duties h x (out.Unsigned n) ok = keeps status.Ok _ (record { functions = refl; numbered = refl; queued = refl; executions = refl; finished = refl })
+abandon-duties h x _ ok = cc
+
 event-duties : (late : Bool) (h : Hub) (x : Entry) (event : HostStep) → AreSoundFrom late 1 h.functions → StepDuties h (environment_event h x event)
 event-duties late h x host.Go sound ok = keeps status.Ok _ (record { functions = refl; numbered = refl; queued = refl; executions = refl; finished = refl })
 event-duties late h x host.LoopEnd sound ok = loop_end-duties h x x.reply.out ok
+event-duties late h x host.Abandon sound ok = abandon-duties h x x.reply.out ok
 event-duties late h x host.Drain sound ok = drains status.Ok _ refl refl
 event-duties late h x host.Finals sound ok = keeps status.Ok _ (record { functions = refl; numbered = refl; queued = refl; executions = refl; finished = refl })
 event-duties late h x host.Begin sound ok = begin-duties late h x (hub_move h) sound refl ok

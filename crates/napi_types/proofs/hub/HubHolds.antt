@@ -24,7 +24,7 @@ use Rattle.napi_types.specs.parts.Pool.{work_numbered, completion_info, first_co
 use Rattle.napi_types.specs.parts.Works.{Work, Outcome}
 use Rattle.napi_types.specs.hub.HistoryLaws.{LeadsTo}
 use Rattle.napi_types.specs.hub.HistoryRoom.{function_places, reserved_history}
-use Rattle.napi_types.specs.hub.Hub.{stage_places, Hub, Stage, Before, Live, LoopEnded, Drained, Final, new_hub, stage_after, is_past_drain, threads_left, workers_left}
+use Rattle.napi_types.specs.hub.Hub.{stage_places, Hub, Stage, Before, Live, LoopEnded, Drained, Final, new_hub, stage_after, is_past_drain, threads_left, workers_left, HooksAbandoned}
 use Rattle.napi_types.specs.hub.HubCalls.{new_function_number}
 use Rattle.napi_types.specs.hub.HubMoves.{HubMove, Delivers, Closes, Finishes, tsfn_move_in, tsfn_move, first_move, hub_move, in_tsfn, without_duty, with_delivered, is_spent}
 use Rattle.napi_types.specs.hub.GivenSteps.{has_loop_ended, is_fresh_work, work_number}
@@ -32,7 +32,7 @@ use Rattle.napi_types.specs.hub.HubEvents.{staged}
 use Rattle.napi_types.specs.hub.HubSteps.{IsHubNext, hub_step, hub_along}
 use Rattle.napi_types.specs.hub.Replays.{HubReplays}
 use Rattle.napi_types.proofs.plain.Conditions.{and-left, and-right}
-use Rattle.napi_types.proofs.hub.HubCases.{HubCase, hub-case, creates_work, deletes_work, cancels_work, queues_work, creates_function, alters, goes, ends_loop, drains, comes_to_finals, delivers, closes, finishes, starts, finishes_work}
+use Rattle.napi_types.proofs.hub.HubCases.{HubCase, hub-case, creates_work, deletes_work, cancels_work, queues_work, creates_function, alters, goes, ends_loop, drains, comes_to_finals, delivers, closes, finishes, starts, finishes_work, abandons}
 use Rattle.napi_types.proofs.hub.HubFunctions.{is_over, IsSound, AreSoundFrom, fewer-sound, more-sound, IsAmong, found-among, FunctionGrows, alters-grows, all_closed-sound, DutyFalls, Moves, first-moves}
 use Rattle.napi_types.proofs.hub.HubPools.{PoolSound, created-sound, deleted-sound, cancelled-sound, queued-sound, started-sound, worked-sound, completed-sound, drained-sound, fewer-late, finished-there}
 use Rattle.napi_types.proofs.hub.HubRooms.{WhatMoves, what-moves, move-of_function, completion-completes, late-room}
@@ -53,7 +53,9 @@ is_draining _ = false
 still-late : (s : Stage) (event : HostStep) → is_draining event ≡ false → is_some (stage_after s event) ≡ true → is_past_drain (unwrap_or (stage_after s event) s) ≡ true → is_past_drain s ≡ true
 still-late Before host.Go other comes late = cc
 still-late Live host.LoopEnd other comes late = cc
+still-late LoopEnded host.Abandon other comes late = cc
 still-late LoopEnded host.Drain other comes late = cc
+still-late HooksAbandoned host.Drain other comes late = cc
 still-late Drained host.Finals other comes late = refl
 still-late _ _ other comes late = cc
 
@@ -104,6 +106,7 @@ functions-sound h x told _ sound (alters c k f change is there how) =
     let grows : FunctionGrows (is_past_drain h.stage) _ f (change f) = alters-grows (is_past_drain h.stage) f c change how in
     among.kept change grows.id (grows.sound among.sound)
 functions-sound h x told _ sound (goes is may) = staged-sound h host.Go refl (and-left _ (is_none h.standing) may) sound
+functions-sound h x told _ sound (abandons is may still) = staged-sound h host.Abandon refl (and-left _ (is_none h.standing) may) sound
 functions-sound h x told _ sound (ends_loop is may) = staged-sound h host.LoopEnd refl (and-left _ (is_none h.standing) may) sound
 functions-sound h x told _ sound (drains is may) = all_closed-sound (is_past_drain h.stage) _ 1 h.functions sound
 functions-sound h x told _ sound (comes_to_finals is may) = staged-sound h host.Finals refl (and-left _ (is_none h.standing) may) sound
@@ -160,6 +163,7 @@ pool-sound h x told _ given s (deletes_work w is none) = deleted-sound (is_past_
 pool-sound h x told _ given s (cancels_work w is none) = cancelled-sound (is_past_drain h.stage) h.pool w.0 none s.pool
 pool-sound h x told _ given s (queues_work w is none early) = queued-sound (is_past_drain h.stage) h.pool w.0 none (drained-looped h.stage early) s.pool
 pool-sound h x told _ given s (goes is may) = staged-pool h host.Go refl (and-left _ (is_none h.standing) may) s.pool
+pool-sound h x told _ given s (abandons is may still) = staged-pool h host.Abandon refl (and-left _ (is_none h.standing) may) s.pool
 pool-sound h x told _ given s (ends_loop is may) = staged-pool h host.LoopEnd refl (and-left _ (is_none h.standing) may) s.pool
 pool-sound h x told _ given s (drains is may) = drained-sound (is_past_drain h.stage) _ h.pool s.pool
 pool-sound h x told _ given s (comes_to_finals is may) = staged-pool h host.Finals refl (and-left _ (is_none h.standing) may) s.pool
@@ -274,13 +278,16 @@ is_ending _ = false
 not-final : (s : Stage) (event : HostStep) → is_ending event ≡ false → is_some (stage_after s event) ≡ true → unwrap_or (stage_after s event) s ≡ Final → ⊥
 not-final Before host.Go other comes final = cc
 not-final Live host.LoopEnd other comes final = cc
+not-final LoopEnded host.Abandon other comes final = cc
 not-final LoopEnded host.Drain other comes final = cc
+not-final HooksAbandoned host.Drain other comes final = cc
 not-final Drained host.Finals other comes final = cc
 not-final _ _ other comes final = cc
 
 kept-final : (h : Hub) (x : Entry) (told : Out) (n : Hub) → HubCase h x told n → n.stage ≡ Final → (h.stage ≡ Final) ⊎ FinalsCame h x n
 kept-final h x told _ (comes_to_finals is may) final = inr (record { is = is; hub = refl; may = may })
 kept-final h x told _ (goes is may) final = absurd (not-final h.stage host.Go refl (and-left _ (is_none h.standing) may) final)
+kept-final h x told _ (abandons is may still) final = absurd (not-final h.stage host.Abandon refl (and-left _ (is_none h.standing) may) final)
 kept-final h x told _ (ends_loop is may) final = absurd (not-final h.stage host.LoopEnd refl (and-left _ (is_none h.standing) may) final)
 kept-final h x told _ (drains is may) final = absurd (not-final h.stage host.Drain refl (and-left _ (is_none h.standing) may) final)
 kept-final h x told _ (delivers d is next alone) final = inl (sym (duty-stage d.duty h) ∙ final)

@@ -26,7 +26,7 @@ use Rattle.napi_types.specs.hub.HubCalls.{is_thread_call, hub_answer, unless_ref
 use Rattle.napi_types.specs.hub.HubMoves.{HubMove, Delivers, Closes, Finishes, hub_move}
 use Rattle.napi_types.specs.hub.HubStep.{answered_step}
 use Rattle.napi_types.specs.hub.GivenSteps.{given_step, work_number, answer_unless_given}
-use Rattle.napi_types.specs.hub.HubEvents.{environment_event, loop_end_step, begin_step, close_step, finish_step, frame_end_step}
+use Rattle.napi_types.specs.hub.HubEvents.{environment_event, loop_end_step, begin_step, close_step, finish_step, frame_end_step, abandon_step}
 use Rattle.napi_types.specs.hub.ThreadSteps.{is_thread_there, nothing_given, thread_step, thread_event}
 use Rattle.napi_types.specs.hub.WorkerSteps.{worker_step, worker_event, start_step, work_end_step}
 use Rattle.napi_types.specs.hub.HubSteps.{hub_step, hub_step_of, environment_step}
@@ -146,9 +146,14 @@ frame_end-what : (h : Hub) (x : Entry) (d : Option DueInfo) → x.what ≡ what.
 frame_end-what h x None is = refl
 frame_end-what h x (Some d) is = sym is
 
+abandon-what : (h : Hub) (x : Entry) (o : Out) → x.what ≡ what.Host host.Abandon → (abandon_step h x o).entry.what ≡ x.what
+abandon-what h x (out.Unsigned n) is = sym is
+abandon-what h x _ is = refl
+
 event-what : (h : Hub) (x : Entry) (event : HostStep) → x.what ≡ what.Host event → (environment_event h x event).entry.what ≡ x.what
 event-what h x host.Go is = sym is
 event-what h x host.LoopEnd is = loop_end-what h x x.reply.out is
+event-what h x host.Abandon is = abandon-what h x x.reply.out is
 event-what h x host.Drain is = sym is
 event-what h x host.Finals is = sym is
 event-what h x host.Begin is = begin-what h x (hub_move h) is

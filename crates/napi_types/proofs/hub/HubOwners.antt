@@ -39,7 +39,7 @@ use Rattle.napi_types.specs.hub.HubMoves.{HubMove, Delivers, Closes, Finishes, t
 use Rattle.napi_types.specs.hub.HubOwners.{IsFunctionOf, IsOwnedHub}
 use Rattle.napi_types.specs.hub.HubStep.{answered_step}
 use Rattle.napi_types.specs.hub.GivenSteps.{given_step, answer_unless_given, work_number}
-use Rattle.napi_types.specs.hub.HubEvents.{begin_step, close_step, finish_step, frame_end_step, loop_end_step, environment_event}
+use Rattle.napi_types.specs.hub.HubEvents.{begin_step, close_step, finish_step, frame_end_step, loop_end_step, environment_event, abandon_step}
 use Rattle.napi_types.specs.hub.ThreadSteps.{is_thread_there, nothing_given, thread_call_step, thread_event, thread_step}
 use Rattle.napi_types.specs.hub.WorkerSteps.{start_step, work_end_step, worker_step}
 use Rattle.napi_types.specs.hub.HubSteps.{hub_step_of, hub_step}
@@ -274,9 +274,14 @@ loop_end-owned : (n : ℕ) (h : Hub) (x : Entry) (o : Out) → IsOwnedHub n h �
 loop_end-owned n h x (out.Ended w) k = record { works = k.works; functions = k.functions }
 loop_end-owned n h x o k = k
 
+abandon-owned : (n : ℕ) (h : Hub) (x : Entry) (o : Out) → IsOwnedHub n h → IsOwnedHub n (abandon_step h x o).after
+abandon-owned n h x (out.Unsigned k) owned = record { works = owned.works; functions = owned.functions }
+abandon-owned n h x _ owned = owned
+
 pub event-owned : (n : ℕ) (h : Hub) (x : Entry) (event : HostStep) → IsOwnedHub n h → IsOwnedHub n (environment_event h x event).after
 event-owned n h x host.Go k = record { works = k.works; functions = k.functions }
 event-owned n h x host.LoopEnd k = loop_end-owned n h x x.reply.out k
+event-owned n h x host.Abandon k = abandon-owned n h x x.reply.out k
 event-owned n h x host.Drain k =
     record { works = k.works; functions = All-map (IsOurFunction n) closed h.functions (All-weaker (IsOurFunction n) (λ f. IsOurFunction n (closed f)) (λ f here. keeps-plainly n f _ refl refl here) h.functions k.functions) }
 event-owned n h x host.Finals k = record { works = k.works; functions = k.functions }

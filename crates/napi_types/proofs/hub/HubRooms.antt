@@ -22,7 +22,7 @@ use Rattle.napi_types.specs.parts.Functions.{FunctionState, new_function, called
 use Rattle.napi_types.specs.parts.Pool.{WorkPool, work_at, work_numbered, number_of_work, executed_by, standing_at, work_state, work_refusal, state_refusal, with_work, without_work, with_queued, cancelled_at, with_cancelled, with_started, started_from, with_finished, finished_at, with_completed, first_completion, completion_info, drained}
 use Rattle.napi_types.specs.parts.Works.{Work, WorkState, Created, Queued, Running, Finished, Completed, Execution, Outcome, is_queued, cancelled_outcome}
 use Rattle.napi_types.specs.hub.HistoryRoom.{work_places, function_places, reserved_history}
-use Rattle.napi_types.specs.hub.Hub.{stage_places, Hub, Stage, Before, Live, LoopEnded, Drained, stage_after, left_of, threads_left, workers_left}
+use Rattle.napi_types.specs.hub.Hub.{stage_places, Hub, Stage, Before, Live, LoopEnded, Drained, stage_after, left_of, threads_left, workers_left, HooksAbandoned}
 use Rattle.napi_types.specs.hub.HubCalls.{new_function_number}
 use Rattle.napi_types.specs.hub.HubMoves.{HubMove, Delivers, Closes, Finishes, first_move, hub_move, in_pool, in_tsfn, without_duty, with_delivered}
 use Rattle.napi_types.specs.hub.GivenSteps.{has_loop_ended, work_number}
@@ -31,7 +31,7 @@ use Rattle.napi_types.proofs.plain.Conditions.{and-left}
 use Rattle.napi_types.proofs.plain.Found.{has-found, has-with_number, turned}
 use Rattle.napi_types.proofs.plain.Maps.{length-with_record}
 use Rattle.napi_types.proofs.plain.CallFacts.{needs-place}
-use Rattle.napi_types.proofs.hub.HubCases.{HubCase, asks, creates_work, deletes_work, cancels_work, queues_work, creates_function, alters, goes, ends_loop, drains, comes_to_finals, delivers, closes, finishes, ends, thread_ends, worker_ends, starts, finishes_work, calls, acquires, releases, references, unreferences}
+use Rattle.napi_types.proofs.hub.HubCases.{HubCase, asks, creates_work, deletes_work, cancels_work, queues_work, creates_function, alters, goes, ends_loop, drains, comes_to_finals, delivers, closes, finishes, ends, thread_ends, worker_ends, starts, finishes_work, calls, acquires, releases, references, unreferences, abandons}
 use Rattle.napi_types.proofs.hub.HubFunctions.{called-open, AreSoundFrom, IsAmong, found-among, alters-grows, all_closed-le, DutyFalls, Moves, first-moves}
 
 -- ONE LESS
@@ -223,11 +223,13 @@ in-function-room late h f change a b among fits =
     by s t p q same fits = omega (arith, same, fits)
 
 -- A GREAT EVENT
-stage-falls : (s : Stage) (event : HostStep) → is_some (stage_after s event) ≡ true → stage_places (unwrap_or (stage_after s event) s) + 1 ≡ stage_places s
-stage-falls Before host.Go comes = refl
-stage-falls Live host.LoopEnd comes = refl
-stage-falls LoopEnded host.Drain comes = refl
-stage-falls Drained host.Finals comes = refl
+stage-falls : (s : Stage) (event : HostStep) → is_some (stage_after s event) ≡ true → stage_places (unwrap_or (stage_after s event) s) + 1 ≤ stage_places s
+stage-falls Before host.Go comes = omega arith
+stage-falls Live host.LoopEnd comes = omega arith
+stage-falls LoopEnded host.Abandon comes = omega arith
+stage-falls LoopEnded host.Drain comes = omega arith
+stage-falls HooksAbandoned host.Drain comes = omega arith
+stage-falls Drained host.Finals comes = omega arith
 stage-falls _ _ comes = cc
 
 staged-room : (h : Hub) (event : HostStep) → is_some (stage_after h.stage event) ≡ true → reserved_history (staged event h) + 1 ≤ reserved_history h + 0
@@ -235,7 +237,7 @@ staged-room h event comes =
     by (stage_places h.stage) (stage_places (staged event h).stage) (length (threads_left h)) (length (workers_left h)) (work_places h.pool) (sum_by function_places h.functions) (one_if (is_some h.standing))
     (stage-falls h.stage event comes)
   where
-    by : (s s' t w p f o : ℕ) → s' + 1 ≡ s → s' + t + w + p + f + o + 1 ≤ s + t + w + p + f + o + 0
+    by : (s s' t w p f o : ℕ) → s' + 1 ≤ s → s' + t + w + p + f + o + 1 ≤ s + t + w + p + f + o + 0
     by s s' t w p f o falls = omega (arith, falls)
 
 drained-room : (h : Hub) → is_some (stage_after h.stage host.Drain) ≡ true → reserved_history (staged host.Drain (drained_hub h)) + 1 ≤ reserved_history h + 0
@@ -372,6 +374,7 @@ hub-room late h x told _ sound (creates_function f entry maximum count finalizer
 hub-room late h x told _ sound (alters c k f change is there how) =
     has-places _ _ x _ is (in-function-room late h f change 1 (need c) (found-among late 1 k h.functions f sound there) (alters-grows late f c change how).room)
 hub-room late h x told _ sound (goes is may) = has-places _ _ x _ is (staged-room h host.Go (and-left _ (is_none h.standing) may))
+hub-room late h x told _ sound (abandons is may still) = has-places _ _ x _ is (staged-room h host.Abandon (and-left _ (is_none h.standing) may))
 hub-room late h x told _ sound (ends_loop is may) = has-places _ _ x _ is (staged-room h host.LoopEnd (and-left _ (is_none h.standing) may))
 hub-room late h x told _ sound (drains is may) = has-places _ _ x _ is (drained-room h (and-left _ (is_none h.standing) may))
 hub-room late h x told _ sound (comes_to_finals is may) = has-places _ _ x _ is (staged-room h host.Finals (and-left _ (is_none h.standing) may))
@@ -426,6 +429,8 @@ late-room late h x told _ is_from_finals_on looped sound (deletes_work w is none
 late-room late h x told _ is_from_finals_on looped sound (cancels_work w is none) =
     one-place _ _ x _ is (omega arith) (hub-room late h x told _ sound (cancels_work w is none))
 late-room late h x told _ is_from_finals_on looped sound (goes is may) = one-place _ _ x _ is (omega arith) (hub-room late h x told _ sound (goes is may))
+late-room late h x told _ is_from_finals_on looped sound (abandons is may still) =
+    one-place _ _ x _ is (omega arith) (hub-room late h x told _ sound (abandons is may still))
 late-room late h x told _ is_from_finals_on looped sound (ends_loop is may) =
     one-place _ _ x _ is (omega arith) (hub-room late h x told _ sound (ends_loop is may))
 late-room late h x told _ is_from_finals_on looped sound (drains is may) = one-place _ _ x _ is (omega arith) (hub-room late h x told _ sound (drains is may))

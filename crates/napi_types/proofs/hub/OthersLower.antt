@@ -31,7 +31,7 @@ use Rattle.napi_types.specs.hub.ThreadSteps.{thread_step, thread_event}
 use Rattle.napi_types.specs.hub.WorkerSteps.{worker_step, worker_event}
 use Rattle.napi_types.specs.hub.HubSteps.{IsHubNext, hub_step, hub_step_of}
 use Rattle.napi_types.proofs.hub.Executions.{loses-one, wins-one, left-one}
-use Rattle.napi_types.proofs.hub.HubCases.{HubCase, hub-case, asks, creates_work, deletes_work, cancels_work, queues_work, creates_function, alters, goes, ends_loop, drains, comes_to_finals, delivers, closes, finishes, ends, thread_ends, worker_ends, starts, finishes_work, Alters, calls, acquires, releases}
+use Rattle.napi_types.proofs.hub.HubCases.{HubCase, hub-case, asks, creates_work, deletes_work, cancels_work, queues_work, creates_function, alters, goes, ends_loop, drains, comes_to_finals, delivers, closes, finishes, ends, thread_ends, worker_ends, starts, finishes_work, Alters, calls, acquires, releases, abandons}
 use Rattle.napi_types.proofs.hub.HubHolds.{HubSound, led-sound}
 use Rattle.napi_types.proofs.hub.HubFunctions.{IsAmong, found-among}
 use Rattle.napi_types.proofs.hub.HubKeeps.{other-calls}
@@ -195,6 +195,7 @@ case-lowers-nothing h x told _ holds asked happens (alters c k f change is there
     function-lowers-nothing (is_past_drain h.stage) h f change (found-among (is_past_drain h.stage) 1 k h.functions f holds.functions there)
     (alters-lowers-nothing f c change how)
 case-lowers-nothing h x told _ holds asked happens (goes is may) = absurd (not-true (happens _ is))
+case-lowers-nothing h x told _ holds asked happens (abandons is may still) = absurd (not-true (happens _ is))
 case-lowers-nothing h x told _ holds asked happens (ends_loop is may) = absurd (not-true (happens _ is))
 case-lowers-nothing h x told _ holds asked happens (drains is may) = absurd (not-true (happens _ is))
 case-lowers-nothing h x told _ holds asked happens (comes_to_finals is may) = absurd (not-true (happens _ is))

@@ -35,6 +35,11 @@ pub All-right : {A : Type 0} (P : A → Type 0) (xs ys : List A) → All P (xs +
 All-right P [] ys all = all
 All-right P (x ∷ xs) ys all = All-right P xs ys (All-tail P x (xs ++ ys) all)
 
+-- what holds of all that a function tells
+pub of-map : {A B : Type 0} (P : B → Type 0) (f : A → B) (ys : List A) → All P (map f ys) → All (λ y. P (f y)) ys
+of-map P f [] all = All-nil (λ y. P (f y))
+of-map P f (y ∷ ys) all = All-cons (λ z. P (f z)) y ys (All-head P (f y) (map f ys) all) (of-map P f ys (All-tail P (f y) (map f ys) all))
+
 -- THE FIRST THAT PASSES
 pub find-passes : {A : Type 0} (test : A → Bool) (xs : List A) (x : A) → find test xs ≡ Some x → test x ≡ true
 find-passes test [] x is = let no : ⊥ = cc in absurd no

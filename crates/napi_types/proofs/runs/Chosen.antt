@@ -8,11 +8,12 @@ use Rattle.napi_types.specs.declared.entry.Phase.TheVariants as phase
 use Rattle.napi_types.specs.parts.Book.{lowest_due}
 use Rattle.napi_types.specs.parts.Hooks.{Hook, last_hook}
 use Rattle.napi_types.specs.environment.Environment.{Environment}
-use Rattle.napi_types.specs.hub.Hub.{Hub, Stage, Before, Live, LoopEnded, Drained, Final}
+use Rattle.napi_types.specs.hub.Hub.{Hub, Stage, Before, Live, LoopEnded, Drained, Final, HooksAbandoned}
 use Rattle.napi_types.specs.hub.HubMoves.{HubMove, hub_move, is_idle, is_quiet, idle_reason, is_spent}
 use Rattle.napi_types.specs.runs.Choice.{local_choice, local_choice_in, hub_choice, hub_choice_at, choice, finals_choice, waiting_hooks}
-use Rattle.napi_types.specs.runs.Loop.{Event, Opens, Inits, Tickets, Moves, Goes, EndsLoop, Drains, FinalsCome, IsGone}
+use Rattle.napi_types.specs.runs.Loop.{Event, Opens, Inits, Tickets, Moves, Goes, EndsLoop, Drains, FinalsCome, IsGone, Abandons}
 use Rattle.napi_types.specs.runs.Machine.{Machine}
+use Rattle.std.specs.Prelude.{◌==◌}
 
 -- THE ENVIRONMENT'S
 -- an event that the environment decides alone, in this phase
@@ -94,7 +95,10 @@ pub data HubChoice (h : Hub) (waiting : ℕ) : Stage → Event → Type 0 where
   goes : HubChoice h waiting Before Goes
   idles : hub_move h ≡ None → is_idle h ≡ true → HubChoice h waiting Live (EndsLoop loop_end.Idle)
   quiets : hub_move h ≡ None → is_idle h ≡ false → is_quiet h ≡ true → HubChoice h waiting Live (EndsLoop loop_end.Quiet)
-  drains : HubChoice h waiting LoopEnded Drains
+  drains : (waiting == 0) ≡ true → HubChoice h waiting LoopEnded Drains
+  drains_later : HubChoice h waiting HooksAbandoned Drains
+  abandons : (waiting == 0) ≡ false → hub_move h ≡ None → is_quiet h ≡ true → HubChoice h waiting LoopEnded Abandons
+  moves_in_hooks : (waiting == 0) ≡ false → (move : HubMove) → hub_move h ≡ Some move → HubChoice h waiting LoopEnded (Moves move)
   finals : hub_move h ≡ None → is_spent h ≡ true → HubChoice h waiting Drained FinalsCome
   moves_in_loop : (move : HubMove) → hub_move h ≡ Some move → HubChoice h waiting Live (Moves move)
   moves_at_end : (move : HubMove) → hub_move h ≡ Some move → HubChoice h waiting Drained (Moves move)
@@ -121,10 +125,26 @@ drained-choice : (h : Hub) (waiting : ℕ) (o : Option HubMove) (v : Event) → 
 drained-choice h waiting (Some move) v next is = let same : Moves move ≡ v = cc in subst (HubChoice h waiting Drained) same (moves_at_end move next)
 drained-choice h waiting None v next is = spent-choice h waiting (is_spent h) v next refl is
 
+quiet-choice : (h : Hub) (waiting : ℕ) (quiet : Bool) (v : Event) → (waiting == 0) ≡ false → hub_move h ≡ None → is_quiet h ≡ quiet
+    → cond quiet (Some Abandons) None ≡ Some v → HubChoice h waiting LoopEnded v
+quiet-choice h waiting true v some none quiet is = let same : Abandons ≡ v = cc in subst (HubChoice h waiting LoopEnded) same (abandons some none quiet)
+quiet-choice h waiting false v some none quiet is = cc
+
+waiting-choice : (h : Hub) (waiting : ℕ) (o : Option HubMove) (v : Event) → (waiting == 0) ≡ false → hub_move h ≡ o
+    → option_or (option_map Moves o) (cond (is_quiet h) (Some Abandons) None) ≡ Some v → HubChoice h waiting LoopEnded v
+waiting-choice h waiting (Some move) v some next is = let same : Moves move ≡ v = cc in subst (HubChoice h waiting LoopEnded) same (moves_in_hooks some move next)
+waiting-choice h waiting None v some next is = quiet-choice h waiting (is_quiet h) v some next refl is
+
+in-hooks : (h : Hub) (waiting : ℕ) (none : Bool) (v : Event) → (waiting == 0) ≡ none
+    → cond none (Some Drains) (option_or (option_map Moves (hub_move h)) (cond (is_quiet h) (Some Abandons) None)) ≡ Some v → HubChoice h waiting LoopEnded v
+in-hooks h waiting true v none is = let same : Drains ≡ v = cc in subst (HubChoice h waiting LoopEnded) same (drains none)
+in-hooks h waiting false v none is = waiting-choice h waiting (hub_move h) v none refl is
+
 pub hub-choice : (h : Hub) (waiting : ℕ) (s : Stage) (v : Event) → hub_choice_at h waiting s ≡ Some v → HubChoice h waiting s v
 hub-choice h waiting Before v is = let same : Goes ≡ v = cc in subst (HubChoice h waiting Before) same goes
 hub-choice h waiting Live v is = going-choice h waiting (hub_move h) v refl is
-hub-choice h waiting LoopEnded v is = let same : Drains ≡ v = cc in subst (HubChoice h waiting LoopEnded) same drains
+hub-choice h waiting LoopEnded v is = in-hooks h waiting (waiting == 0) v refl is
+hub-choice h waiting HooksAbandoned v is = let same : Drains ≡ v = cc in subst (HubChoice h waiting HooksAbandoned) same drains_later
 hub-choice h waiting Drained v is = drained-choice h waiting (hub_move h) v refl is
 hub-choice h waiting Final v is = cc
 
@@ -158,6 +178,7 @@ chosen-move m move is = by (chosen-by m (Moves move) is)
 
     of-hub : (s : Stage) → HubChoice m.hub (waiting_hooks m.env) s (Moves move) → hub_move m.hub ≡ Some move
     of-hub _ (moves_in_loop _ next) = next
+    of-hub _ (moves_in_hooks _ _ next) = next
     of-hub _ (moves_at_end _ next) = next
 
     by : (local_choice m.env ≡ Some (Moves move)) ⊎ ((local_choice m.env ≡ None) × (hub_choice m.hub (waiting_hooks m.env) ≡ Some (Moves move)))

@@ -26,7 +26,7 @@ use Rattle.napi_types.specs.hub.HubMoves.{HubMove, Delivers, Closes, Finishes}
 use Rattle.napi_types.specs.hub.HubEvents.{delivery_entry}
 use Rattle.napi_types.specs.hub.HubSteps.{hub_step}
 use Rattle.napi_types.specs.runs.Choice.{choice}
-use Rattle.napi_types.specs.runs.Loop.{Event, Opens, Inits, Tickets, Moves, Goes, EndsLoop, Drains, FinalsCome, IsGone}
+use Rattle.napi_types.specs.runs.Loop.{Event, Opens, Inits, Tickets, Moves, Goes, EndsLoop, Drains, FinalsCome, IsGone, Abandons}
 use Rattle.napi_types.specs.runs.Machine.{Machine}
 use Rattle.napi_types.specs.runs.Run.{IsNext}
 use Rattle.napi_types.specs.runs.Step.{Step, by_hub, ticket_step, event_step, chosen, may_cut, local_call_step, shared_call_step, call_step_on, end_step_on, frame_step, env_step, has_room, other_step, step_of, step}
@@ -97,6 +97,7 @@ event_what (Tickets n) = host.Begin
 event_what (Moves move) = move_what move
 event_what Goes = host.Go
 event_what (EndsLoop w) = host.LoopEnd
+event_what Abandons = host.Abandon
 event_what Drains = host.Drain
 event_what FinalsCome = host.Finals
 event_what IsGone = host.Gone

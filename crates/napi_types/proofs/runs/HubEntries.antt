@@ -17,12 +17,13 @@ use Rattle.napi_types.specs.hub.HubEvents.{delivery_entry}
 use Rattle.napi_types.specs.hub.HubMoves.{HubMove, Delivers, Closes, Finishes}
 use Rattle.napi_types.specs.hub.HubSteps.{hub_step}
 use Rattle.napi_types.specs.runs.CallRoom.{room_of}
+use Rattle.napi_types.specs.runs.Choice.{waiting_hooks}
 use Rattle.napi_types.specs.runs.Machine.{Machine}
 use Rattle.napi_types.specs.runs.Step.{Step, move_step, has_room}
 use Rattle.napi_types.proofs.plain.Conditions.{and-right}
 use Rattle.napi_types.proofs.environment.Cases.{asked-by}
 use Rattle.napi_types.proofs.environment.FrameEnds.{ended-ends}
-use Rattle.napi_types.proofs.runs.StepCases.{StepCase, calls, ends, opens, inits, begins, vanishes, shares, leaves, passes, moves, others, event_before}
+use Rattle.napi_types.proofs.runs.StepCases.{StepCase, calls, ends, opens, inits, begins, vanishes, shares, leaves, passes, moves, others, event_before, abandons}
 
 -- the entry stands in the journal and leaves the hub, or is the one of a step of the hub
 pub data EntryOf (h : Hub) (x : Entry) : Hub → Type 0 where
@@ -48,5 +49,6 @@ case-of m s (shares c o is answers) ok =
     steps_hub (shared_entry m.env c o) refl (and-right (may_call m.env && not (is_full (room_of m c) c)) (hub_step m.hub (shared_entry m.env c o)).may ok)
 case-of m s (leaves v cut may ours) ok = steps_hub (end_change v cut m.env).entry refl (and-right may (hub_step m.hub (end_change v cut m.env).entry).may ok)
 case-of m s (passes p o q) ok = steps_hub (host_entry (event_before p) o) refl ok
+case-of m s (abandons here far none alone) ok = steps_hub (host_entry host.Abandon (out.Unsigned (waiting_hooks m.env))) refl ok
 case-of m s (moves move next moving alone) ok = move-of m move ok
 case-of m s (others x other) ok = steps_hub x refl (and-right (has_room m x.what) (hub_step m.hub x).may ok)

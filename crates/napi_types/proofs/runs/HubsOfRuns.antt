@@ -24,8 +24,8 @@ use Rattle.napi_types.specs.hub.Hub.{Hub}
 use Rattle.napi_types.specs.hub.HubEvents.{delivery_entry}
 use Rattle.napi_types.specs.hub.HubMoves.{HubMove, Delivers, Closes, Finishes}
 use Rattle.napi_types.specs.hub.HubSteps.{hub_step}
-use Rattle.napi_types.specs.runs.Choice.{choice}
-use Rattle.napi_types.specs.runs.Loop.{Event, Tickets, Moves, Goes, EndsLoop, Drains, FinalsCome}
+use Rattle.napi_types.specs.runs.Choice.{choice, waiting_hooks}
+use Rattle.napi_types.specs.runs.Loop.{Event, Tickets, Moves, Goes, EndsLoop, Drains, FinalsCome, Abandons}
 use Rattle.napi_types.specs.runs.Machine.{Machine}
 use Rattle.napi_types.specs.runs.Run.{IsRunBy, final}
 use Rattle.napi_types.specs.runs.Step.{ticket_step, move_step, event_step, chosen, may_cut, call_step_on, end_step_on, asked_step, frame_step, env_step, has_room, step_of}
@@ -50,6 +50,7 @@ module _ (P : Hub → Type 0) (kept : (h : Hub) (y : Entry) → is_environment y
   event-kept m (Moves move) may p = move-kept m move may p
   event-kept m Goes may p = kept m.hub (host_entry host.Go out.Nothing) refl may p
   event-kept m (EndsLoop w) may p = kept m.hub (host_entry host.LoopEnd (out.Ended w)) refl may p
+  event-kept m Abandons may p = kept m.hub (host_entry host.Abandon (out.Unsigned (waiting_hooks m.env))) refl may p
   event-kept m Drains may p = kept m.hub (host_entry host.Drain (out.Unsigned (length m.hub.pool.queued))) refl may p
   event-kept m FinalsCome may p = kept m.hub (host_entry host.Finals out.Nothing) refl may p
   event-kept m _ may p = p

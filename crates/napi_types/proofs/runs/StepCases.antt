@@ -24,12 +24,12 @@ use Rattle.napi_types.specs.environment.Changes.{opening_change, init_change, go
 use Rattle.napi_types.specs.environment.Ends.{end_change}
 use Rattle.napi_types.specs.environment.Entering.{asked_change}
 use Rattle.napi_types.specs.environment.Tickets.{ticket_change, ticket_in, next_ticket}
-use Rattle.napi_types.specs.hub.Hub.{IsStageOf, Stage, Before, Live, LoopEnded, Drained, stage_after}
+use Rattle.napi_types.specs.hub.Hub.{IsStageOf, Stage, Before, Live, LoopEnded, Drained, stage_after, HooksAbandoned, is_of_hooks}
 use Rattle.napi_types.specs.hub.HubMoves.{HubMove, hub_move}
 use Rattle.napi_types.specs.hub.HubEvents.{is_moving}
 use Rattle.napi_types.specs.hub.HubSteps.{hub_step}
 use Rattle.napi_types.specs.runs.Choice.{choice, waiting_hooks}
-use Rattle.napi_types.specs.runs.Loop.{EndsLoop, Event}
+use Rattle.napi_types.specs.runs.Loop.{EndsLoop, Event, Abandons}
 use Rattle.napi_types.specs.runs.Machine.{Machine}
 use Rattle.napi_types.specs.runs.Run.{IsNext}
 use Rattle.napi_types.specs.runs.Step.{Step, locally, shared, by_hub, ticket_step, move_step, event_step, shared_call_step, other_step, step}
@@ -74,6 +74,8 @@ pub data StepCase (m : Machine) : Step → Type 0 where
       → StepCase m (shared m (hub_step m.hub (end_change v cut m.env).entry) (end_change v cut m.env).after may)
   -- the hub starts the next phase, or moves where no frame stands
   passes : (p : Phase) (o : Out) → Passes m p o → StepCase m (by_hub m (event_before p) p o)
+  -- in Hooks, where nothing moves, the hooks that wait are abandoned
+  abandons : m.env.phase ≡ phase.Hooks → m.hub.stage ≡ LoopEnded → m.env.hooks ≡ [] → m.env.frames ≡ [] → StepCase m (event_step m Abandons)
   moves : (move : HubMove) → hub_move m.hub ≡ Some move → is_moving m.hub.stage ≡ true → m.env.frames ≡ [] → StepCase m (move_step m move)
   -- a thread or a worker makes an entry
   others : (x : Entry) → is_environment x.actor ≡ false → StepCase m (other_step m x)
@@ -102,7 +104,7 @@ ticket-case m n (Some r) there next may = begins n r there next may
 
 loop_end-case : (m : Machine) (w : LoopEnd) → m.env.phase ≡ phase.Live → m.hub.stage ≡ Live → StepCase m (event_step m (EndsLoop w))
 loop_end-case m w here far =
-    passes phase.Hooks (out.Ended w) (record { next = rw here refl; never = λ z. cc; far = stage-moved m host.LoopEnd Live far; entry = refl; left = λ z. cc })
+    passes phase.Hooks (out.Ended w) (record { next = rw here refl; never = λ z. cc; far = ap is_of_hooks (stage-moved m host.LoopEnd Live far); entry = refl; left = λ z. cc })
 
 -- one that the environment decides alone, ..
 own-case : (m : Machine) (p : Phase) (v : Event) → m.env.phase ≡ p → IsStageOf p m.hub.stage → OwnChoice m.env p v → IsTrue (event_step m v).may
@@ -125,7 +127,12 @@ hub-case m _ _ _ alone here far shown choices.goes (choices.begun opened left) =
 hub-case m _ _ _ alone here far shown (choices.idles none idle) (choices.waits unasked lowest) = loop_end-case m loop_end.Idle here far
 hub-case m _ _ _ alone here far shown (choices.quiets none busy quiet) (choices.waits unasked lowest) = loop_end-case m loop_end.Quiet here far
 hub-case m _ _ _ alone here far shown (choices.moves_in_loop move next) (choices.waits unasked lowest) = moves move next (ap is_moving far) alone
-hub-case m _ _ _ alone here far shown choices.drains (choices.unhooked none) =
+hub-case m _ _ _ alone here far shown (choices.abandons some still quiet) (choices.unhooked none) = abandons here far none alone
+hub-case m _ _ _ alone here far shown (choices.moves_in_hooks some move next) (choices.unhooked none) = moves move next (ap is_moving far) alone
+hub-case m _ _ _ alone here far shown choices.drains_later (choices.unhooked none) =
+    passes phase.Drain (out.Unsigned (length m.hub.pool.queued))
+    (record { next = rw here refl; never = λ z. cc; far = stage-moved m host.Drain HooksAbandoned far; entry = refl; left = λ z. none })
+hub-case m _ _ _ alone here far shown (choices.drains unwaited) (choices.unhooked none) =
     passes phase.Drain (out.Unsigned (length m.hub.pool.queued))
     (record { next = rw here refl; never = λ z. cc; far = stage-moved m host.Drain LoopEnded far; entry = refl; left = λ z. none })
 hub-case m _ _ _ alone here far shown (choices.finals none spent) choices.drained =

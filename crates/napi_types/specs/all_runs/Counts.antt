@@ -62,6 +62,7 @@ abbrev pub may_withdraw : What → Bool
 may_withdraw (what.Call (call.RemoveWrap _)) = true
 may_withdraw (what.Call (call.SetInstanceData _ _ _)) = true
 may_withdraw (what.Call (call.RemoveEnvCleanupHook _ _)) = true
+may_withdraw (what.Call (call.RemoveAsyncCleanupHook _)) = true
 may_withdraw _ = false
 
 -- where an entry withdraws a duty it is one of these calls, and accepted

@@ -24,10 +24,10 @@ pub record HasRoom (s : Setting) (xs : List Entry) (m : Machine) : Type 0 where
   pub none_left : m.env.phase ≡ phase.Gone → (reserved_journal m.env ≡ 0) × (reserved_history m.hub ≡ 0)
 
 -- where the limits have room for the events that every run has, the room suffices at the end of every run, and so at every moment. In the journal these are the
--- opening, `gone`, and the begin and the end of each init frame; in the history the hub's four great events, and the end of each thread and each worker
+-- opening, `gone`, and the begin and the end of each init frame; in the history the hub's five great events, and the end of each thread and each worker
 abbrev pub RoomSuffices : Type 0
 RoomSuffices = (s : Setting) (bs : List Ask) (xs : List Entry)
-    → 2 + 2 * length s.plans ≤ s.limits.journal → 4 + s.threads + s.workers ≤ s.limits.history → RunsBy s bs xs → HasRoom s xs (final_of s bs xs)
+    → 2 + 2 * length s.plans ≤ s.limits.journal → 5 + s.threads + s.workers ≤ s.limits.history → RunsBy s bs xs → HasRoom s xs (final_of s bs xs)
 
 -- every collection of a run keeps exactly what the roots reach, empties the references to all else, and takes away what is attached to it
 abbrev pub CollectionsKeepWhatIsReached : Type 0
@@ -50,7 +50,7 @@ is_ticket _ = false
 abbrev pub TicketsAreOnce : Type 0
 TicketsAreOnce = (s : Setting) (bs : List Ask) (xs : List Entry) → EndsBy s bs xs → (t : Ticket) → IsOnce (duty.Ticket t) xs
 
--- in every run only an accepted `remove_wrap`, `set_instance_data` or `remove_env_cleanup_hook` withdraws a duty
+-- in every run only an accepted `remove_wrap`, `set_instance_data`, `remove_env_cleanup_hook` or `remove_async_cleanup_hook` withdraws a duty
 abbrev pub WithdrawnByTheirCalls : Type 0
 WithdrawnByTheirCalls = (s : Setting) (bs : List Ask) (xs : List Entry) → RunsBy s bs xs → All WithdrawsRightly xs
 

@@ -1,5 +1,5 @@
 -- What each local event of the environment writes, and the environment that it leaves.
-use Rattle.std.specs.Prelude.{ℕ, ◌+◌, Bool, true, not, ◌&&◌, nat_lt, ◌∷◌, length, None}
+use Rattle.std.specs.Prelude.{ℕ, ◌+◌, Bool, true, not, ◌&&◌, nat_lt, ◌∷◌, map, length, None}
 use Rattle.napi_types.specs.declared.call.Call.{Call}
 use Rattle.napi_types.specs.declared.call.Call.TheVariants as call
 use Rattle.napi_types.specs.declared.status.Status.{Status}
@@ -15,6 +15,7 @@ use Rattle.napi_types.specs.declared.entry.Phase.{Phase}
 use Rattle.napi_types.specs.declared.entry.Phase.TheVariants as phase
 use Rattle.napi_types.specs.plain.Entries.{host_entry}
 use Rattle.napi_types.specs.plain.Lists.{has_number}
+use Rattle.napi_types.specs.parts.AsyncHooks.{with_abandoned}
 use Rattle.napi_types.specs.parts.Book.{Book, all_due}
 use Rattle.napi_types.specs.parts.Frames.{frame_of, begin_told, ask_counted, is_asking, asks_made, most_asks}
 use Rattle.napi_types.specs.parts.HeapChanges.{with_frame}
@@ -54,12 +55,14 @@ call_entry e c r = record { actor = actor.Env; depth = length e.frames; step = a
 abbrev pub issued_number : Out → ℕ
 issued_number (out.Scope s) = s.0
 issued_number (out.Ref r) = r.0
+issued_number (out.AsyncHook h) = h.0
 issued_number _ = 0
 
 -- a number that the environment chooses is above 0 and was never issued
 abbrev pub is_fresh_result : Environment → Out → Bool
 is_fresh_result e (out.Scope s) = not (has_number s.0 (0 ∷ e.heap.scope_numbers))
 is_fresh_result e (out.Ref r) = not (has_number r.0 (0 ∷ e.references.issued))
+is_fresh_result e (out.AsyncHook h) = not (has_number h.0 (0 ∷ map (λ x. x.number) e.async_hooks))
 is_fresh_result e _ = true
 
 -- whether the innermost frame may make a further ask
@@ -77,6 +80,10 @@ call_change e c n = record { entry = call_entry e c (answer e c n).reply; after 
 -- the environment is gone
 abbrev pub gone_change : Environment → Change
 gone_change e = record { entry = host_entry host.Gone out.Nothing; after = record e { phase = phase.Gone } }
+
+-- the asynchronous hooks that wait are abandoned
+abbrev pub with_none_waiting : Environment → Environment
+with_none_waiting e = record e { async_hooks = with_abandoned e.async_hooks }
 
 -- as `finals` comes, every ticket that is registered falls due
 abbrev pub book_in : Phase → Book → Book

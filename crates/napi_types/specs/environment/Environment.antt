@@ -5,6 +5,7 @@ use Rattle.napi_types.specs.declared.status.Status.TheVariants as status
 use Rattle.napi_types.specs.declared.entry.Phase.{Phase}
 use Rattle.napi_types.specs.declared.entry.Phase.TheVariants as phase
 use Rattle.napi_types.specs.plain.Replies.{Answer}
+use Rattle.napi_types.specs.parts.AsyncHooks.{AsyncHook}
 use Rattle.napi_types.specs.parts.Attachments.{Attachments, no_attachments}
 use Rattle.napi_types.specs.parts.Book.{Book}
 use Rattle.napi_types.specs.parts.Frames.{Frame}
@@ -39,8 +40,10 @@ pub record Environment : Type 0 where
   -- what is attached to values, and every finalizer and hook that was registered
   pub attachments : Attachments
   pub book : Book
-  -- the cleanup hooks that have not begun and were not removed, in the order of adding, and the instance data of each addon
+  -- the cleanup hooks that have not begun and were not removed, in the order of adding; the asynchronous ones, and how far each has come; and the instance data of
+  -- each addon
   pub hooks : List Hook
+  pub async_hooks : List AsyncHook
   pub instances : Instances
   -- the values that thread-safe functions keep alive until they finish
   pub tsfn_roots : List TsfnRoot
@@ -72,6 +75,7 @@ new_environment given = record {
   attachments = no_attachments;
   book = [];
   hooks = [];
+  async_hooks = [];
   instances = replicate given.addons None;
   tsfn_roots = [];
   pending = None;

@@ -1,5 +1,6 @@
 -- What is registered with an environment, and what is attached to its values.
 use Rattle.std.specs.Prelude.{List}
+use Rattle.napi_types.specs.parts.AsyncHooks.{AsyncHook}
 use Rattle.napi_types.specs.parts.Attachments.{Attachments}
 use Rattle.napi_types.specs.parts.Book.{Book}
 use Rattle.napi_types.specs.parts.Hooks.{Hook}
@@ -11,14 +12,15 @@ pub record Registry : Type 0 where
   -- all that is attached to values, and every finalizer and hook that was registered
   pub attachments : Attachments
   pub book : Book
-  -- the cleanup hooks that wait, and the instance data of each addon
+  -- the cleanup hooks that have not begun, how far each asynchronous one has come, and the instance data of each addon
   pub hooks : List Hook
+  pub async_hooks : List AsyncHook
   pub instances : Instances
 
 -- those of an environment
 abbrev pub registry_of : Environment → Registry
-registry_of e = record { attachments = e.attachments; book = e.book; hooks = e.hooks; instances = e.instances }
+registry_of e = record { attachments = e.attachments; book = e.book; hooks = e.hooks; async_hooks = e.async_hooks; instances = e.instances }
 
 -- an environment with others
 abbrev pub with_registry : Environment → Registry → Environment
-with_registry e r = record e { attachments = r.attachments; book = r.book; hooks = r.hooks; instances = r.instances }
+with_registry e r = record e { attachments = r.attachments; book = r.book; hooks = r.hooks; async_hooks = r.async_hooks; instances = r.instances }

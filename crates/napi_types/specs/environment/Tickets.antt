@@ -4,6 +4,7 @@ use Rattle.napi_types.specs.declared.entry.HostStep.TheVariants as host
 use Rattle.napi_types.specs.declared.entry.Phase.{Phase}
 use Rattle.napi_types.specs.declared.entry.Phase.TheVariants as phase
 use Rattle.napi_types.specs.plain.Entries.{host_entry}
+use Rattle.napi_types.specs.parts.AsyncHooks.{AsyncHook, with_begun}
 use Rattle.napi_types.specs.parts.Book.{Registration, due_info, moved_at, begun_in, lowest_due}
 use Rattle.napi_types.specs.parts.Frames.{frame_of_duty, begin_told}
 use Rattle.napi_types.specs.parts.HeapChanges.{with_frame}
@@ -28,6 +29,11 @@ abbrev pub hooks_left : Phase → ℕ → List Hook → List Hook
 hooks_left phase.Hooks ticket hooks = without_hook ticket hooks
 hooks_left _ ticket hooks = hooks
 
+-- an asynchronous one waits from then on
+abbrev pub hooks_waiting : Phase → ℕ → List AsyncHook → List AsyncHook
+hooks_waiting phase.Hooks ticket hooks = with_begun ticket hooks
+hooks_waiting _ ticket hooks = hooks
+
 -- the ticket, of this registration, begins: its frame has a scope of its own; the last status stays
 abbrev pub ticket_change : ℕ → Registration → Environment → Change
 ticket_change n r e = record {
@@ -35,6 +41,7 @@ ticket_change n r e = record {
   after = record e {
     book = moved_at (begun_in e.phase) n e.book;
     hooks = hooks_left e.phase n e.hooks;
+    async_hooks = hooks_waiting e.phase n e.async_hooks;
     heap = with_frame e.heap;
     frames = frame_of_duty (due_info n r) ∷ e.frames;
   };

@@ -11,13 +11,14 @@ use Rattle.napi_types.specs.declared.status.Status.TheVariants as status
 use Rattle.napi_types.specs.plain.Guards.{is_shared, is_registering}
 use Rattle.napi_types.specs.plain.Lists.{has_number}
 use Rattle.napi_types.specs.plain.Replies.{Answer, refuses}
-use Rattle.napi_types.specs.hub.Hub.{Hub, Stage, LoopEnded, Drained, Final}
+use Rattle.napi_types.specs.hub.Hub.{Hub, Stage, LoopEnded, HooksAbandoned, Drained, Final}
 use Rattle.napi_types.specs.hub.HubCalls.{hub_answer}
 use Rattle.napi_types.specs.hub.HubStep.{HubStep, no_hub_step, answered_step}
 
 -- from `loop_end` on
 abbrev pub has_loop_ended : Stage → Bool
 has_loop_ended LoopEnded = true
+has_loop_ended HooksAbandoned = true
 has_loop_ended Drained = true
 has_loop_ended Final = true
 has_loop_ended _ = false

@@ -10,11 +10,12 @@ use Rattle.napi_types.specs.plain.Lists.{has_number}
 use Rattle.napi_types.specs.parts.Functions.{FunctionState}
 use Rattle.napi_types.specs.parts.Pool.{WorkPool, new_pool}
 
--- which of the hub's four great events was the last: none, `go`, `loop_end`, `drain`, `finals`
+-- which of the hub's great events was the last: none, `go`, `loop_end`, `abandon`, `drain`, `finals`
 pub data Stage : Type 0 where
   Before : Stage
   Live : Stage
   LoopEnded : Stage
+  HooksAbandoned : Stage
   Drained : Stage
   Final : Stage
 
@@ -51,11 +52,13 @@ is_past_drain Drained = true
 is_past_drain Final = true
 is_past_drain _ = false
 
--- `go`, `loop_end`, `drain` and `finals` happen once each and in this order
+-- `go`, `loop_end`, `drain` and `finals` happen once each and in this order; `abandon` may happen once, between `loop_end` and `drain`
 abbrev pub stage_after : Stage → HostStep → Option Stage
 stage_after Before host.Go = Some Live
 stage_after Live host.LoopEnd = Some LoopEnded
+stage_after LoopEnded host.Abandon = Some HooksAbandoned
 stage_after LoopEnded host.Drain = Some Drained
+stage_after HooksAbandoned host.Drain = Some Drained
 stage_after Drained host.Finals = Some Final
 stage_after _ _ = None
 
@@ -70,19 +73,26 @@ threads_left h = left_of h.threads h.ended_threads
 abbrev pub workers_left : Hub → List ℕ
 workers_left h = left_of h.workers h.ended_workers
 
--- how many of the four great events have still to happen
+-- how many of the great events may still happen
 abbrev pub stage_places : Stage → ℕ
-stage_places Before = 4
-stage_places Live = 3
-stage_places LoopEnded = 2
+stage_places Before = 5
+stage_places Live = 4
+stage_places LoopEnded = 3
+stage_places HooksAbandoned = 2
 stage_places Drained = 1
 stage_places Final = 0
+
+-- the stages of the phase Hooks
+abbrev pub is_of_hooks : Stage → Bool
+is_of_hooks LoopEnded = true
+is_of_hooks HooksAbandoned = true
+is_of_hooks _ = false
 
 -- a stage to which the hub may have come in this phase
 abbrev pub IsStageOf : Phase → Stage → Type 0
 IsStageOf phase.Init s = s ≡ Before
 IsStageOf phase.Live s = s ≡ Live
-IsStageOf phase.Hooks s = s ≡ LoopEnded
+IsStageOf phase.Hooks s = is_of_hooks s ≡ true
 IsStageOf phase.Drain s = s ≡ Drained
 IsStageOf phase.Finals s = s ≡ Final
 IsStageOf phase.Gone s = s ≡ Final

@@ -11,8 +11,8 @@ use Rattle.napi_types.specs.plain.Entries.{host_told, host_entry}
 use Rattle.napi_types.specs.parts.Frames.{begin_told, frame_of_duty}
 use Rattle.napi_types.specs.parts.Functions.{closed, finished}
 use Rattle.napi_types.specs.parts.Pool.{drained}
-use Rattle.napi_types.specs.hub.Hub.{Hub, Stage, Live, LoopEnded, Drained, stage_after}
-use Rattle.napi_types.specs.hub.HubMoves.{HubMove, Delivers, Closes, Finishes, hub_move, in_tsfn, with_delivered}
+use Rattle.napi_types.specs.hub.Hub.{Hub, Stage, Live, LoopEnded, HooksAbandoned, Drained, stage_after}
+use Rattle.napi_types.specs.hub.HubMoves.{HubMove, Delivers, Closes, Finishes, hub_move, in_tsfn, is_quiet, with_delivered}
 use Rattle.napi_types.specs.hub.HubStep.{HubStep, no_hub_step}
 
 -- the hub at the stage of one of its great events, where that may come
@@ -28,6 +28,15 @@ abbrev pub loop_end_step : Hub → Entry → Out → HubStep
 loop_end_step h x (out.Ended w) = great_step h host.LoopEnd (out.Ended w) h
 loop_end_step h x o = no_hub_step h x
 
+-- nothing moves, and nobody is left who could give the hub something to do
+abbrev pub is_still : Hub → Bool
+is_still h = is_none (hub_move h) && is_quiet h
+
+-- the hooks that wait are abandoned, so many, where the hub is still
+abbrev pub abandon_step : Hub → Entry → Out → HubStep
+abandon_step h x (out.Unsigned n) = record (great_step h host.Abandon (out.Unsigned n) h) { may = (great_step h host.Abandon (out.Unsigned n) h).may && is_still h }
+abandon_step h x o = no_hub_step h x
+
 -- the drain: no work starts any more, those that wait are cancelled, and every open function begins to close
 abbrev pub drained_hub : Hub → Hub
 drained_hub h = record h { pool = drained h.pool; functions = map closed h.functions }
@@ -36,6 +45,7 @@ drained_hub h = record h { pool = drained h.pool; functions = map closed h.funct
 abbrev pub is_moving : Stage → Bool
 is_moving Live = true
 is_moving LoopEnded = true
+is_moving HooksAbandoned = true
 is_moving Drained = true
 is_moving _ = false
 
@@ -82,6 +92,7 @@ frame_end_step h x (Some d) = record { entry = host_entry host.End x.reply.out; 
 abbrev pub environment_event : Hub → Entry → HostStep → HubStep
 environment_event h x host.Go = great_step h host.Go out.Nothing h
 environment_event h x host.LoopEnd = loop_end_step h x x.reply.out
+environment_event h x host.Abandon = abandon_step h x x.reply.out
 environment_event h x host.Drain = great_step h host.Drain (out.Unsigned (length h.pool.queued)) (drained_hub h)
 environment_event h x host.Finals = great_step h host.Finals out.Nothing h
 environment_event h x host.Begin = begin_step h x (hub_move h)

@@ -111,6 +111,8 @@ facts_of (call.SetInstanceData _ finalizer _) =
 facts_of call.GetInstanceData = in_group OnInstances
 facts_of (call.AddEnvCleanupHook _ _) = record (in_group OnHooks) { registers = true; grows = true; need = 1 + duty_places }
 facts_of (call.RemoveEnvCleanupHook _ _) = in_group OnHooks
+facts_of (call.AddAsyncCleanupHook _ _) = record (in_group OnHooks) { registers = true; grows = true; need = 1 + duty_places }
+facts_of (call.RemoveAsyncCleanupHook _) = in_group OnHooks
 facts_of (call.CreateAsyncWork _ _ _) = record (in_group OnWorks) { registers = true; grows = true }
 facts_of (call.DeleteAsyncWork _) = in_group OnWorks
 facts_of (call.CancelAsyncWork _) = in_group OnWorks

@@ -8,8 +8,7 @@ use Rattle.napi_types.specs.environment.Environment.{Environment}
 use Rattle.napi_types.specs.environment.Tickets.{ticket_in}
 use Rattle.napi_types.specs.hub.HubMoves.{HubMove}
 
--- an event of the environment where no frame stands: the opening, the init frame of an addon, the frame of a ticket, a move of the hub, its four great events, and
--- the end
+-- an event of the environment where no frame stands: the opening, the init frame of an addon, the frame of a ticket, a move of the hub, its great events, and the end
 pub data Event : Type 0 where
   Opens : Event
   Inits : ℕ → Event
@@ -17,6 +16,7 @@ pub data Event : Type 0 where
   Moves : HubMove → Event
   Goes : Event
   EndsLoop : LoopEnd → Event
+  Abandons : Event
   Drains : Event
   FinalsCome : Event
   IsGone : Event

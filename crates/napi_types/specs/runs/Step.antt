@@ -21,7 +21,7 @@ use Rattle.napi_types.specs.plain.Room.{is_full, fits_in, may_want_memory}
 use Rattle.napi_types.specs.plain.Weave.{Side, Journal, History}
 use Rattle.napi_types.specs.parts.Book.{Registration, registration_at, may_begin_in}
 use Rattle.napi_types.specs.parts.Frames.{Frame, asks_made, most_asks, duty_of, is_hub_duty}
-use Rattle.napi_types.specs.environment.Changes.{Change, opening_change, init_change, issued_number, is_fresh_result, may_ask, may_call, gone_change, in_phase}
+use Rattle.napi_types.specs.environment.Changes.{Change, opening_change, init_change, issued_number, is_fresh_result, may_ask, may_call, gone_change, in_phase, with_none_waiting}
 use Rattle.napi_types.specs.environment.Ends.{end_change}
 use Rattle.napi_types.specs.environment.Entering.{asked_change}
 use Rattle.napi_types.specs.environment.Environment.{Environment}
@@ -33,8 +33,8 @@ use Rattle.napi_types.specs.hub.HubStep.{HubStep}
 use Rattle.napi_types.specs.hub.HubEvents.{delivery_entry}
 use Rattle.napi_types.specs.hub.HubSteps.{hub_step}
 use Rattle.napi_types.specs.runs.CallRoom.{room_of}
-use Rattle.napi_types.specs.runs.Choice.{choice}
-use Rattle.napi_types.specs.runs.Loop.{Event, Opens, Inits, Tickets, Moves, Goes, EndsLoop, Drains, FinalsCome, IsGone}
+use Rattle.napi_types.specs.runs.Choice.{choice, waiting_hooks}
+use Rattle.napi_types.specs.runs.Loop.{Event, Opens, Inits, Tickets, Moves, Goes, EndsLoop, Abandons, Drains, FinalsCome, IsGone}
 use Rattle.napi_types.specs.runs.Machine.{Machine}
 
 -- an entry, the list on which it stands, the machine after it, and whether it may stand
@@ -85,6 +85,7 @@ event_step m (Tickets n) = ticket_step m n (registration_at m.env.book n)
 event_step m (Moves move) = move_step m move
 event_step m Goes = by_hub m host.Go phase.Live out.Nothing
 event_step m (EndsLoop w) = by_hub m host.LoopEnd phase.Hooks (out.Ended w)
+event_step m Abandons = shared m (hub_step m.hub (host_entry host.Abandon (out.Unsigned (waiting_hooks m.env)))) (with_none_waiting m.env) true
 event_step m Drains = by_hub m host.Drain phase.Drain (out.Unsigned (length m.hub.pool.queued))
 event_step m FinalsCome = by_hub m host.Finals phase.Finals out.Nothing
 event_step m IsGone = locally m (gone_change m.env) true

@@ -95,6 +95,8 @@ operation_ask (op.SetInstanceData payload entry hint) rs = ask.Do (call.SetInsta
 operation_ask (op.GetInstanceData w) rs = ask.Do call.GetInstanceData
 operation_ask (op.AddEnvCleanupHook entry argument) rs = ask.Do (call.AddEnvCleanupHook entry argument)
 operation_ask (op.RemoveEnvCleanupHook entry argument) rs = ask.Do (call.RemoveEnvCleanupHook entry argument)
+operation_ask (op.AddAsyncCleanupHook entry argument w) rs = ask.Do (call.AddAsyncCleanupHook entry argument)
+operation_ask (op.RemoveAsyncCleanupHook hook) rs = ask.Do (call.RemoveAsyncCleanupHook (record { 0 = register_at rs hook }))
 operation_ask (op.CreateAsyncWork job entry payload w) rs = ask.Do (call.CreateAsyncWork job entry payload)
 operation_ask (op.DeleteAsyncWork work) rs = ask.Do (call.DeleteAsyncWork (record { 0 = register_at rs work }))
 operation_ask (op.CancelAsyncWork work) rs = ask.Do (call.CancelAsyncWork (record { 0 = register_at rs work }))
@@ -162,6 +164,7 @@ result_registers (op.IsExceptionPending w) = singleton w
 result_registers (op.GetAndClearLastException w) = singleton w
 result_registers (op.GetLastErrorInfo w) = singleton w
 result_registers (op.GetInstanceData w) = singleton w
+result_registers (op.AddAsyncCleanupHook _ _ w) = singleton w
 result_registers (op.CreateAsyncWork _ _ _ w) = singleton w
 result_registers (op.CreateThreadsafeFunction _ _ _ _ _ _ w) = singleton w
 result_registers (op.GetThreadsafeFunctionContext _ w) = singleton w
@@ -180,6 +183,7 @@ register_values (out.Handle h) = singleton h.0
 register_values out.NoHandle = singleton 0
 register_values (out.Scope s) = singleton s.0
 register_values (out.Ref r) = singleton r.0
+register_values (out.AsyncHook h) = singleton h.0
 register_values (out.Work w) = singleton w.0
 register_values (out.Function f) = singleton f.0
 register_values (out.Signed i) = singleton (cast_unsigned w64 i)

@@ -1,6 +1,6 @@
 -- The script that a JSON value is, or the first thing that is wrong with it: the parts are read in the order root, version, workers, addons,
 -- threads, schedule, each before what stands in the next, and a list's limit is tried before its members.
-use Rattle.std.specs.Prelude.{◌≡◌, ℕ, ◌+◌, ◌==◌, if◌then◌else◌, Bool, false, List, Option, option_map, option_and_then, unwrap_or, is_some, codes, length}
+use Rattle.std.specs.Prelude.{◌≡◌, ℕ, ◌+◌, if◌then◌else◌, Bool, List, Option, option_and_then, is_some, codes, length}
 use Rattle.std.specs.declared.result.Result.TheVariants.{Ok, Err}
 use Rattle.serde_json.specs.Data.{Data}
 use Rattle.serde_json.specs.Find.{get}

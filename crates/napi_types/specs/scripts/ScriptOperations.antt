@@ -34,7 +34,8 @@ named name ops = find (λ o. bytes_eq (operation_name o) name) ops
 abbrev pub operations : List Op
 operations = op.Exit ∷ op.GetUndefined 0 ∷ op.GetNull 0 ∷ op.GetGlobal 0 ∷ op.CreateObject 0 ∷ op.CreateArray 0 ∷ op.OpenHandleScope 0
     ∷ op.OpenEscapableHandleScope 0 ∷ op.IsExceptionPending 0 ∷ op.GetAndClearLastException 0 ∷ op.GetLastErrorInfo 0 ∷ op.GetInstanceData 0
-    ∷ op.GetVersion 0 ∷ op.Collect 0 ∷ op.CloseHandleScope 0 ∷ op.CloseEscapableHandleScope 0 ∷ op.DeleteReference 0 ∷ op.Throw 0 ∷ op.DeleteAsyncWork 0
+    ∷ op.GetVersion 0 ∷ op.Collect 0 ∷ op.CloseHandleScope 0 ∷ op.CloseEscapableHandleScope 0 ∷ op.DeleteReference 0 ∷ op.Throw 0
+    ∷ op.RemoveAsyncCleanupHook 0 ∷ op.DeleteAsyncWork 0
     ∷ op.CancelAsyncWork 0 ∷ op.QueueAsyncWork 0 ∷ op.AcquireThreadsafeFunction 0 ∷ op.RefThreadsafeFunction 0 ∷ op.UnrefThreadsafeFunction 0
     ∷ op.Return None ∷ op.Typeof 0 0 ∷ op.IsArray 0 0 ∷ op.IsError 0 0 ∷ op.GetValueInt64 0 0 ∷ op.GetValueBigintInt64 0 0 ∷ op.GetValueBool 0 0
     ∷ op.GetValueStringUtf8 0 0 ∷ op.GetValueExternal 0 0 ∷ op.GetArrayLength 0 0 ∷ op.GetPropertyNames 0 0 ∷ op.ReferenceRef 0 0 ∷ op.ReferenceUnref 0 0
@@ -42,6 +43,7 @@ operations = op.Exit ∷ op.GetUndefined 0 ∷ op.GetNull 0 ∷ op.GetGlobal 0 �
     ∷ op.CreateBigintInt64 (pos 0) 0 ∷ op.CreateSymbol None 0 ∷ op.AddEnvCleanupHook 0 0 ∷ op.RemoveEnvCleanupHook 0 0
     ∷ op.ReleaseThreadsafeFunction 0 release.Release ∷ op.StrictEquals 0 0 0 ∷ op.EscapeHandle 0 0 0 ∷ op.CreateFunction 0 0 0 ∷ op.CreateError None 0 0
     ∷ op.SetElement 0 0 0 ∷ op.GetElement 0 0 0 ∷ op.HasElement 0 0 0 ∷ op.CreateReference 0 0 0 ∷ op.TypeTagObject 0 0 0 ∷ op.SetInstanceData 0 None 0
+    ∷ op.AddAsyncCleanupHook 0 0 0
     ∷ op.CallThreadsafeFunction 0 0 mode.Nonblocking ∷ op.CreateExternal 0 None 0 0 ∷ op.CheckObjectTypeTag 0 0 0 0
     ∷ op.CallFunction None 0 (register_list 0 0 0 0 0) 0 ∷ op.CreateAsyncWork (job.Sum 0) 0 0 0 ∷ op.Wrap 0 0 None 0 None ∷ op.AddFinalizer 0 0 0 0 None
     ∷ op.CreateThreadsafeFunction None None 0 0 None 0 0 ∷ op.CreateStringUtf8 (record { 0 = 0 }) 0 ∷ op.SetNamedProperty 0 (record { 0 = 0 }) 0
@@ -88,6 +90,7 @@ with_register (op.CloseHandleScope _) x = Some (op.CloseHandleScope x)
 with_register (op.CloseEscapableHandleScope _) x = Some (op.CloseEscapableHandleScope x)
 with_register (op.DeleteReference _) x = Some (op.DeleteReference x)
 with_register (op.Throw _) x = Some (op.Throw x)
+with_register (op.RemoveAsyncCleanupHook _) x = Some (op.RemoveAsyncCleanupHook x)
 with_register (op.DeleteAsyncWork _) x = Some (op.DeleteAsyncWork x)
 with_register (op.CancelAsyncWork _) x = Some (op.CancelAsyncWork x)
 with_register (op.QueueAsyncWork _) x = Some (op.QueueAsyncWork x)
@@ -147,6 +150,7 @@ with_three_arguments entries (op.HasElement _ _ _) a b c = from_three op.HasElem
 with_three_arguments entries (op.CreateReference _ _ _) a b c = from_three op.CreateReference (register a) (short b) (register c)
 with_three_arguments entries (op.TypeTagObject _ _ _) a b c = from_three op.TypeTagObject (register a) (whole b) (whole c)
 with_three_arguments entries (op.SetInstanceData _ _ _) a b c = from_three op.SetInstanceData (whole a) (entry_or_none entries b) (whole c)
+with_three_arguments entries (op.AddAsyncCleanupHook _ _ _) a b c = from_three op.AddAsyncCleanupHook (entry_number entries a) (whole b) (register c)
 with_three_arguments entries (op.CallThreadsafeFunction _ _ _) a b c = from_three op.CallThreadsafeFunction (register a) (whole b) (mode_number c)
 with_three_arguments entries _ a b c = None
 
