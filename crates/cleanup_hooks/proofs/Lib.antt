@@ -1,4 +1,6 @@
+pub mod AsyncRows
 pub mod FoundHooks
+pub mod HookNumbers
 pub mod Keys
 pub mod KeptHooks
 pub mod HookOrder

@@ -1,1 +1,3 @@
+pub mod AsyncRows
+pub mod HookLists
 pub mod KeptHooks

@@ -1,25 +1,13 @@
-use Rattle.std.proofs.Common.{◌∙◌, ◌<◌, ap, arith}
+use Rattle.std.proofs.Common.{◌≡◌, ◌∙◌, ◌+◌, ◌<◌, ap, sym, refl, arith, length}
 use Rattle.std.proofs.lemmas.List.Elements.{All-same}
-use Rattle.napi_types.specs.parts.Hooks.{Hook, hook_ticket}
-use Rattle.cleanup_hooks.specs.declared.key.HookKey.{HookKey}
-use Rattle.cleanup_hooks.proofs.FoundHooks.{found}
-use Rattle.cleanup_hooks.proofs.KeptHooks.{kept-added, kept-restored}
-use Rattle.cleanup_hooks.proofs.HookOrder.{hooks_of-insert_entry, lookup-past}
+use Rattle.napi_types.specs.parts.AsyncHooks.{AsyncHook, with_async_hook}
+use Rattle.napi_types.specs.parts.Hooks.{Hook}
+use Rattle.cleanup_hooks.specs.HookLists.{HookLists}
+use Rattle.cleanup_hooks.proofs.HookNumbers.{numbered-plain}
 use Rattle.cleanup_hooks.proofs.hooks.Hooks.add.Goals as goal
 
-pub invariant_of-self-in-Ok : goal.invariant_of-self-in-Ok
-invariant_of-self-in-Ok c =
-    let key : HookKey = record { addon = c.args.addon; entry = c.args.entry; argument = c.args.argument } in
-    let above = All-same (λ (h : Hook). h.ticket < c.args.ticket.0) _ _ c.self.view_is c.requires.rising in
-    let no_ticket = lookup-past c.self.inside.by_ticket.entries c.args.ticket.0 above in
-    let no_key = found _ _ c.self.invariant key ∙ ap (hook_ticket c.args.addon c.args.entry c.args.argument) c.self.view_is ∙ c.requires.new in
-    kept-added _ _ _ _ _ _ c.self.invariant no_ticket no_key c.in-Ok.ensures.updates.0 c.in_ok-insert.ensures.updates.0 c.insert-2.ensures.ordered
-
-pub invariant_of-self-in-Err : goal.invariant_of-self-in-Err
-invariant_of-self-in-Err c =
-    let key : HookKey = record { addon = c.args.addon; entry = c.args.entry; argument = c.args.argument } in
-    let no_key = found _ _ c.self.invariant key ∙ ap (hook_ticket c.args.addon c.args.entry c.args.argument) c.self.view_is ∙ c.requires.new in
-    kept-restored _ _ _ _ _ _ c.insert.new.self c.self.invariant no_key c.in-Err.ensures.err c.in_ok-insert.ensures.updates.0 c.remove.ensures.updates.0 c.insert-2.ensures.ordered
-
-pub returns-in-Ok-clause-ok : goal.returns-in-Ok-clause-ok
-returns-in-Ok-clause-ok c = grind (arith, hooks_of-insert_entry)
+pub invariant_of-self-2 : goal.invariant_of-self-2
+invariant_of-self-2 c =
+    rw c.in_ok-add.ensures.ok
+    (numbered-plain c.self.inside.asynchronous c.self.inside.list _ refl
+    (All-same (λ (h : AsyncHook). h.ticket < c.args.ticket.0) _ _ (ap (λ (h : HookLists). h.async_hooks) c.self.view_is) c.requires.above) c.self.invariant)

@@ -1,7 +1,5 @@
-use Rattle.std.proofs.Common.{◌∙◌, sym}
-use Rattle.cleanup_hooks.proofs.KeptHooks.{kept-removed}
+use Rattle.cleanup_hooks.proofs.HookNumbers.{numbered-without}
 use Rattle.cleanup_hooks.proofs.hooks.Hooks.remove.Goals as goal
 
 pub invariant_of-self : goal.invariant_of-self
-invariant_of-self c =
-    kept-removed _ _ _ _ _ _ c.self.invariant (sym c.remove.ensures.value ∙ c.in-Some.is) c.remove.ensures.updates.0 c.remove-in-Some.ensures.updates.0 c.remove.ensures.ordered
+invariant_of-self c = rw c.remove.ensures (numbered-without c.args.ticket.0 c.self.inside.asynchronous c.self.inside.list c.self.invariant)
