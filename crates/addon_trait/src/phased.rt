@@ -1,13 +1,13 @@
 //! What the teardown sees of an environment's core.
-ghost use Rattle.std.specs.Prelude.{◌≡◌, ℕ, Bool, false, Some};
+ghost use Rattle.std.specs.Prelude.{◌≡◌, ◌<◌, ℕ, Bool, false, Some};
 ghost use Rattle.napi_types.specs.declared.entry.Phase.{Phase};
 ghost use Rattle.napi_types.specs.declared.ids.TsfnId.{TsfnId};
 ghost use Rattle.napi_types.specs.plain.Phases.{next_phase};
 
 use napi_types::{Phase, TsfnId};
 
-/// The core of an environment, as the steps of the teardown see it: its phase, whether a ticket is next, and the three calls
-/// by which an event of the hub reaches it. So those steps stand on no core of their own.
+/// The core of an environment, as the steps of the teardown see it: its phase, whether a ticket is next, how many asynchronous hooks
+/// wait, and the four calls by which an event of the hub reaches it. So those steps stand on no core of their own.
 ///
 /// Each call that changes the core hands on a relation of the core's: between the core before, the arguments and the core
 /// after. A position is the length of the history just after the entry of the event. No call takes memory.
@@ -21,6 +21,9 @@ pub trait Phased {
     /// Whether a frame stands.
     ghost stands: { Self → Bool };
 
+    /// How many asynchronous hooks wait: they have begun, and were neither removed nor abandoned.
+    ghost waiting: { Self → ℕ };
+
     /// What a move to this phase, at this position, does.
     ghost advances: { Self → Phase → ℕ → Self → Type 0 };
 
@@ -30,6 +33,9 @@ pub trait Phased {
     /// What the close of a thread-safe function, at this position, does.
     ghost moves: { Self → ℕ → Self → Type 0 };
 
+    /// What the abandoning of the hooks that wait, at this position, does.
+    ghost abandons: { Self → ℕ → Self → Type 0 };
+
     /// How far the environment has come.
     fn phase(&self) -> Phase
         ensures { result ≡ phase self.now };
@@ -37,6 +43,10 @@ pub trait Phased {
     /// Whether a ticket's frame would begin next, where none stands; in the loop whether or not exit was asked.
     fn has_local(&self) -> bool
         ensures { result ≡ has_local self.now };
+
+    /// How many asynchronous hooks wait: they have begun, and were neither removed nor abandoned.
+    fn waiting(&self) -> u64
+        ensures { result ≡ waiting self.now };
 
     /// Moves to the next phase, where no frame stands. For `Gone` the position is left unused.
     fn advance(&mut self, to: Phase, position: u64)
@@ -56,6 +66,15 @@ pub trait Phased {
     /// Takes in that a thread-safe function was closed.
     fn moved(&mut self, position: u64)
         ensures moved { moves self.old position self.new }
+        ensures phase { phase self.new ≡ phase self.old }
+        ensures local { has_local self.new ≡ has_local self.old }
+        ensures stands { stands self.new ≡ stands self.old };
+
+    /// Takes in that the asynchronous hooks that wait are abandoned, in the phase Hooks, where at least one waits.
+    fn abandoned(&mut self, position: u64)
+        requires hooks { phase self.old ≡ Phase.Hooks }
+        requires waiting { 0 < waiting self.old }
+        ensures abandoned { abandons self.old position self.new }
         ensures phase { phase self.new ≡ phase self.old }
         ensures local { has_local self.new ≡ has_local self.old }
         ensures stands { stands self.new ≡ stands self.old };

@@ -10,7 +10,7 @@ use Rattle.napi_types.specs.hub.Hub.{Hub}
 use Rattle.napi_types.specs.hub.HubEvents.{delivery_entry}
 use Rattle.napi_types.specs.hub.HubMoves.{Delivers, Closes, Finishes}
 use Rattle.napi_types.specs.runs.Choice.{hub_choice}
-use Rattle.napi_types.specs.runs.Loop.{Event, Moves, Drains, FinalsCome}
+use Rattle.napi_types.specs.runs.Loop.{Event, Moves, Abandons, Drains, FinalsCome}
 use Rattle.shared_hub.specs.HubStates.{HubSeen, AddsEntry}
 use Rattle.env_teardown.specs.declared.step.TearStep.{TearStep}
 use Rattle.env_teardown.specs.declared.step.TearStep.TheVariants as tear
@@ -38,14 +38,15 @@ phase_after (Some Drains) p = phase.Drain
 phase_after (Some FinalsCome) p = phase.Finals
 phase_after _ p = p
 
--- the event adds its entry to the history
-abbrev pub AddsEvent : HubSeen → Event → HubSeen → Type 0
-AddsEvent old (Moves (Delivers d)) new = AddsEntry old (delivery_entry d) new
-AddsEvent old (Moves (Closes n)) new = AddsEntry old (host_entry host.CloseTsfn (out.Function (record { 0 = n }))) new
-AddsEvent old (Moves (Finishes n)) new = AddsEntry old (host_entry host.FinishTsfn (out.Function (record { 0 = n }))) new
-AddsEvent old Drains new = AddsEntry old (host_entry host.Drain (out.Unsigned (length old.hub.pool.queued))) new
-AddsEvent old FinalsCome new = AddsEntry old (host_entry host.Finals out.Nothing) new
-AddsEvent old _ new = ⊥
+-- the event adds its entry to the history; `abandon` tells how many hooks wait
+abbrev pub AddsEvent : ℕ → HubSeen → Event → HubSeen → Type 0
+AddsEvent waiting old (Moves (Delivers d)) new = AddsEntry old (delivery_entry d) new
+AddsEvent waiting old (Moves (Closes n)) new = AddsEntry old (host_entry host.CloseTsfn (out.Function (record { 0 = n }))) new
+AddsEvent waiting old (Moves (Finishes n)) new = AddsEntry old (host_entry host.FinishTsfn (out.Function (record { 0 = n }))) new
+AddsEvent waiting old Abandons new = AddsEntry old (host_entry host.Abandon (out.Unsigned waiting)) new
+AddsEvent waiting old Drains new = AddsEntry old (host_entry host.Drain (out.Unsigned (length old.hub.pool.queued))) new
+AddsEvent waiting old FinalsCome new = AddsEntry old (host_entry host.Finals out.Nothing) new
+AddsEvent waiting old _ new = ⊥
 
 module _ {J : Type 0} where
   -- what the step of an event comes to: the frame of a duty begins, or else it has moved

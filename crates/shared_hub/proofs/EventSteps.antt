@@ -21,8 +21,8 @@ use Rattle.napi_types.specs.parts.Functions.{closed, finished}
 use Rattle.napi_types.specs.parts.Pool.{WorkPool, drained, work_numbered, executed_by, value_of_work, with_started, started_from, with_finished}
 use Rattle.napi_types.specs.parts.Works.{Work}
 use Rattle.napi_types.specs.hub.HistoryLaws.{KeepsStanding}
-use Rattle.napi_types.specs.hub.Hub.{Hub, Before, Live, LoopEnded, Drained, stage_after}
-use Rattle.napi_types.specs.hub.HubEvents.{staged, drained_hub, may_move, is_moving, delivery_entry, begin_step, close_step, finish_step, frame_end_step, is_frame_end}
+use Rattle.napi_types.specs.hub.Hub.{Hub, Stage, Before, Live, LoopEnded, HooksAbandoned, Drained, Final, is_of_hooks, stage_after}
+use Rattle.napi_types.specs.hub.HubEvents.{staged, is_still, drained_hub, may_move, is_moving, delivery_entry, begin_step, close_step, finish_step, frame_end_step, is_frame_end}
 use Rattle.napi_types.specs.hub.HubMoves.{HubMove, Delivers, Closes, Finishes, hub_move, in_tsfn, in_pool, with_delivered, without_duty}
 use Rattle.napi_types.specs.hub.HubStep.{actor_told}
 use Rattle.napi_types.specs.hub.ThreadSteps.{is_thread_end, is_gone_on}
@@ -69,10 +69,26 @@ loop-ends h w stage alone = record {
   after = refl;
 }
 
-pub drain-comes : (h : Hub) → h.stage ≡ LoopEnded → h.standing ≡ None
+pub abandon-comes : (h : Hub) (waiting : ℕ) → h.stage ≡ LoopEnded → h.standing ≡ None → is_still h ≡ true
+    → ComesNext h (host_entry host.Abandon (out.Unsigned waiting)) (staged host.Abandon h)
+abandon-comes h waiting stage alone still = record {
+  next = record { entry = refl; may = and-both _ _ (and-both _ _ (ap (λ s. is_some (stage_after s host.Abandon)) stage) (ap is_none alone)) still };
+  after = refl;
+}
+
+-- from either stage of the phase Hooks
+pub drain-follows : (s : Stage) → is_of_hooks s ≡ true → stage_after s host.Drain ≡ Some Drained
+drain-follows Before is = cc
+drain-follows Live is = cc
+drain-follows LoopEnded is = refl
+drain-follows HooksAbandoned is = refl
+drain-follows Drained is = cc
+drain-follows Final is = cc
+
+pub drain-comes : (h : Hub) → is_of_hooks h.stage ≡ true → h.standing ≡ None
     → ComesNext h (host_entry host.Drain (out.Unsigned (length h.pool.queued))) (staged host.Drain (drained_hub h))
 drain-comes h stage alone = record {
-  next = record { entry = refl; may = and-both _ _ (ap (λ s. is_some (stage_after s host.Drain)) stage) (ap is_none alone) };
+  next = record { entry = refl; may = and-both _ _ (ap is_some (drain-follows h.stage stage)) (ap is_none alone) };
   after = refl;
 }
 

@@ -20,7 +20,7 @@ use Rattle.napi_types.specs.parts.Functions.{FunctionState, is_open, is_full_que
 use Rattle.napi_types.specs.parts.Pool.{WorkPool}
 use Rattle.napi_types.specs.hub.GivenSteps.{has_loop_ended, fits_stage, is_fresh_work, work_number, answer_unless_given}
 use Rattle.napi_types.specs.hub.HistoryRoom.{reserved_history}
-use Rattle.napi_types.specs.hub.Hub.{Hub, Stage, Before, Live, LoopEnded, Drained, Final, new_hub, is_past_drain}
+use Rattle.napi_types.specs.hub.Hub.{Hub, Stage, Before, Live, LoopEnded, HooksAbandoned, Drained, Final, new_hub, is_past_drain}
 use Rattle.napi_types.specs.hub.HubCalls.{hub_answer, tsfn_at, call_answer, called_answer, is_thread_call}
 use Rattle.napi_types.specs.hub.HubStep.{answered_step}
 use Rattle.napi_types.specs.hub.ThreadSteps.{is_thread_there, nothing_given}
@@ -149,6 +149,7 @@ timely-queues stage (call.QueueAsyncWork w) p closes timely = closes ∙ by stag
     by Before t = refl
     by Live t = refl
     by LoopEnded t = refl
+    by HooksAbandoned t = refl
     by Drained t = cc
     by Final t = cc
 timely-queues stage (call.CreateAsyncWork job entry payload) p closes timely = tt

@@ -1,4 +1,4 @@
--- Why the loop ends, and when `finals` comes.
+-- Why the loop ends, and when `abandon` and `finals` come.
 use Rattle.std.proofs.Common.{◌≡◌, ◌∙◌, Bool, true, false, cond, ◌&&◌, refl, ap, sym, Option, Some, None, is_some, is_none}
 use Rattle.std.specs.Bool.{then_some}
 use Rattle.napi_types.specs.declared.entry.LoopEnd.TheVariants as loop_end
@@ -28,7 +28,7 @@ quiet-ends h false is still busy =
     by true = refl
     by false = refl
 
--- FINALS
+-- ABANDON AND FINALS
 pub move-comes-first : {A : Type 0} (o : Option A) (spent : Bool) → is_some o ≡ true → false ≡ (is_none o && spent)
 move-comes-first None spent moves = cc
 move-comes-first (Some m) spent moves = refl
@@ -40,3 +40,7 @@ unspent-waits (Some m) spent waits = refl
 pub spent-comes : {A : Type 0} (o : Option A) (spent : Bool) → is_some o ≡ false → spent ≡ true → true ≡ (is_none o && spent)
 spent-comes None spent still is = sym is
 spent-comes (Some m) spent still is = cc
+
+pub quiet-decides : {A : Type 0} (o : Option A) (quiet : Bool) → is_some o ≡ false → quiet ≡ (is_none o && quiet)
+quiet-decides None quiet still = refl
+quiet-decides (Some m) quiet still = cc

@@ -8,10 +8,10 @@ use Rattle.shared_hub.specs.declared.progress.HubStage.TheVariants as code
 use Rattle.shared_hub.specs.KeptHubs.{IsKeptHistory, AreFieldsOf}
 use Rattle.shared_hub.proofs.ActorsLeft.{all-are-left}
 
-opens-within : (a b bound : ℕ) → 4 + a + b ≤ bound → 0 + (4 + a + b + (4 * 0 + 3 * 0 + 2 * 0) + 0 + 0) ≤ bound
+opens-within : (a b bound : ℕ) → 5 + a + b ≤ bound → 0 + (5 + a + b + (4 * 0 + 3 * 0 + 2 * 0) + 0 + 0) ≤ bound
 opens-within a b bound fits = omega (arith, fits)
 
-pub opened-history : (n : Numbers) (limit capacity : ℕ) → limit ≡ n.limits.history → limit ≤ most_entries → 4 + n.threads + n.workers ≤ limit → 4 + n.threads + n.workers ≤ capacity
+pub opened-history : (n : Numbers) (limit capacity : ℕ) → limit ≡ n.limits.history → limit ≤ most_entries → 5 + n.threads + n.workers ≤ limit → 5 + n.threads + n.workers ≤ capacity
     → min first_places limit ≤ capacity → IsKeptHistory n [] limit capacity
 opened-history n limit capacity is small fits memory first = record {
   limit_is = is;

@@ -3,7 +3,7 @@ use Rattle.std.specs.Prelude.{◌≡◌, ℕ, ◌+◌, ◌-◌, Bool, true, nat_
 use Rattle.napi_types.specs.declared.entry.Actor.{Actor}
 use Rattle.napi_types.specs.declared.entry.Actor.TheVariants as actor
 use Rattle.napi_types.specs.plain.Room.{one_if}
-use Rattle.napi_types.specs.hub.Hub.{Hub, Stage, Before, Live, LoopEnded, Drained, Final, stage_places}
+use Rattle.napi_types.specs.hub.Hub.{Hub, Stage, Before, Live, LoopEnded, HooksAbandoned, Drained, Final, stage_places}
 use Rattle.shared_hub.specs.declared.progress.HubProgress.{HubProgress}
 use Rattle.shared_hub.specs.declared.progress.HubStage.{HubStage}
 use Rattle.shared_hub.specs.declared.progress.HubStage.TheVariants as code
@@ -13,6 +13,7 @@ abbrev pub hub_stage : HubStage → Stage
 hub_stage code.Before = Before
 hub_stage code.Live = Live
 hub_stage code.LoopEnded = LoopEnded
+hub_stage code.HooksAbandoned = HooksAbandoned
 hub_stage code.Drained = Drained
 hub_stage code.Final = Final
 

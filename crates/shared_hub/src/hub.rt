@@ -62,8 +62,8 @@ impl<J: Job, N: Naming> Told for HubState<J, N> {
 }
 
 impl<J: Job, N: Naming> HubState<J, N> {
-    /// A hub as it opens, with an empty history, for these threads and workers. `limits.history` is from `4 + threads + workers`, the places
-    /// of the events that every run has, to 4,194,304; `limits.journal` is not read. The memory of the history's first places is taken
+    /// A hub as it opens, with an empty history, for these threads and workers. `limits.history` is from `5 + threads + workers`, the places
+    /// of the events that a run may always have, to 4,194,304; `limits.journal` is not read. The memory of the history's first places is taken
     /// here.
     pub fn new(
         alloc: Global,
@@ -72,11 +72,11 @@ impl<J: Job, N: Naming> HubState<J, N> {
         limits: Limits,
     ) -> Result<HubState<J, N>, NoMemory>
         requires named { N.numbers ≡ record { threads = threads; workers = workers; limits = limits } }
-        requires room { 4 + threads + workers ≤ limits.history }
+        requires room { 5 + threads + workers ≤ limits.history }
         requires most { limits.history ≤ most_entries }
         ensures { IfOk result (λ state. state ≡ hub_seen N.numbers []) }
     {
-        let owed = 4 + threads + workers;
+        let owed = 5 + threads + workers;
         let first = FIRST_PLACES.min(limits.history).max(owed);
         Ok(HubState {
             entries: Vec::with_capacity(alloc, first as usize)?,
@@ -117,8 +117,8 @@ impl<J: Job, N: Naming> HubState<J, N> {
         self.progress.is_live()
     }
 
-    /// Whether the hub is at this stage, and no frame of its own stands: where `go`, `loop_end`, `drain` and `finals` ask for that stage
-    /// they may be called. Constant time.
+    /// Whether the hub is at this stage, and no frame of its own stands: where `go`, `loop_end`, `abandon`, `drain` and `finals` ask for
+    /// that stage they may be called. Constant time.
     pub fn is_at(&self, stage: HubStage) -> bool
         ensures { (result ≡ true) ↔ IsAtStage (hub_stage stage) self.now.hub }
     {

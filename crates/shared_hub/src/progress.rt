@@ -6,7 +6,7 @@ ghost use Rattle.shared_hub.specs.HubProgress.{hub_stage, progress_places, is_le
 
 use napi_types::Actor;
 
-/// Which of the hub's four great events was the last.
+/// Which of the hub's great events was the last.
 #[derive(Clone, Copy, Debug, PartialEq, Eq)]
 pub enum HubStage {
     /// None.
@@ -15,6 +15,8 @@ pub enum HubStage {
     Live,
     /// `loop_end`.
     LoopEnded,
+    /// `abandon`.
+    HooksAbandoned,
     /// `drain`.
     Drained,
     /// `finals`.
@@ -47,15 +49,16 @@ impl HubProgress {
         }
     }
 
-    /// How many places of the history it owes: those of the great events that are to come, the end of each thread and each worker, and
+    /// How many places of the history it owes: those of the great events that may still come, the end of each thread and each worker, and
     /// the end of the frame that stands. Constant time.
     pub(crate) fn places(&self) -> u64
         ensures { result ≡ progress_places self.now }
     {
         let events = match self.stage {
-            HubStage::Before => 4,
-            HubStage::Live => 3,
-            HubStage::LoopEnded => 2,
+            HubStage::Before => 5,
+            HubStage::Live => 4,
+            HubStage::LoopEnded => 3,
+            HubStage::HooksAbandoned => 2,
             HubStage::Drained => 1,
             HubStage::Final => 0,
         };
@@ -83,7 +86,8 @@ impl HubProgress {
     {
         match self.stage {
             HubStage::Before | HubStage::Final => false,
-            HubStage::Live | HubStage::LoopEnded | HubStage::Drained => true,
+            HubStage::Live | HubStage::LoopEnded | HubStage::HooksAbandoned | HubStage::Drained =>
+                true,
         }
     }
 

@@ -1,10 +1,11 @@
-//! The four great events of the hub.
-ghost use Rattle.std.specs.Prelude.{◌≡◌, ◌&&◌, ◌==◌, ◌||◌, length, None, Some, is_none, is_some, IfSome, MatchBool};
+//! The great events of the hub.
+ghost use Rattle.std.specs.Prelude.{◌≡◌, ◌<◌, ◌&&◌, ◌==◌, ◌||◌, length, true, None, Some, is_none, is_some, IfSome, MatchBool};
 ghost use Rattle.std.specs.Option.{IfNone};
 ghost use Rattle.napi_types.specs.declared.entry.HostStep.TheVariants as host;
 ghost use Rattle.napi_types.specs.declared.entry.Out.TheVariants as out;
 ghost use Rattle.napi_types.specs.plain.Entries.{host_entry as entry_of};
-ghost use Rattle.napi_types.specs.hub.Hub.{Stage, Before, Live, LoopEnded, Drained};
+ghost use Rattle.napi_types.specs.hub.Hub.{Stage, Before, Live, LoopEnded, Drained, is_of_hooks};
+ghost use Rattle.napi_types.specs.hub.HubEvents.{is_still};
 ghost use Rattle.napi_types.specs.hub.HubMoves.{hub_move, is_quiet, is_spent, loop_end_of};
 ghost use Rattle.shared_hub.specs.HubStates.{AddsEntry};
 
@@ -50,11 +51,33 @@ impl<J: Job, N: Naming> HubState<J, N> {
         Some(why)
     }
 
+    /// `abandon`, where it may come: the asynchronous hooks that wait, so many, are abandoned once the hub has no move, every thread has ended, no
+    /// work runs, and none is queued unless there are no workers. So nobody is left who could remove one. Whether it came; where it did not
+    /// nothing changes, and that the environment waits is noted: see [`HubState::take_wait`].
+    ///
+    /// It comes after `loop_end` and before `drain`, at most once, where at least one hook waits and no frame stands. Constant time. It takes no memory.
+    pub fn abandon(&mut self, waiting: u64) -> bool
+        requires looped { self.old.hub.stage ≡ LoopEnded }
+        requires alone { self.old.hub.standing ≡ None }
+        requires waiting { 0 < waiting }
+        ensures may { result ≡ is_still self.old.hub }
+        ensures comes { MatchBool result (AddsEntry self.old (entry_of host.Abandon (out.Unsigned waiting)) self.new) (self.new ≡ self.old) }
+    {
+        if !self.is_still() {
+            self.sleepers.wait_for(WaitsFor::Entry);
+            return false;
+        }
+        self.progress.stage = HubStage::HooksAbandoned;
+        self.entries
+            .push_reserved(host_entry(HostStep::Abandon, Out::Unsigned(waiting)));
+        true
+    }
+
     /// `drain`: no work starts any more, those that wait are cancelled, and every open function begins to close. How many works waited.
     ///
-    /// In time linear in the works that waited and in the functions. It takes no memory.
+    /// It comes after `loop_end`, and after `abandon` where that came. In time linear in the works that waited and in the functions. It takes no memory.
     pub fn drain(&mut self) -> u64
-        requires looped { self.old.hub.stage ≡ LoopEnded }
+        requires looped { is_of_hooks self.old.hub.stage ≡ true }
         requires alone { self.old.hub.standing ≡ None }
         ensures count { result ≡ length self.old.hub.pool.queued }
         ensures drained { AddsEntry self.old (entry_of host.Drain (out.Unsigned (length self.old.hub.pool.queued))) self.new }
@@ -101,6 +124,13 @@ impl<J: Job, N: Naming> HubState<J, N> {
             return Some(LoopEnd::Idle);
         }
         self.is_quiet().then_some(LoopEnd::Quiet)
+    }
+
+    /// Whether the hub has no move, and nobody is left who could give it one.
+    fn is_still(&self) -> bool
+        ensures { result ≡ is_still self.now.hub }
+    {
+        !self.parts.has_move() && self.is_quiet()
     }
 
     /// Whether nobody is left who could give the hub something to do.

@@ -9,7 +9,7 @@ use Rattle.napi_types.specs.plain.Entries.{host_entry}
 use Rattle.napi_types.specs.hub.HubEvents.{staged, drained_hub}
 use Rattle.shared_hub.specs.declared.progress.HubStage.TheVariants as code
 use Rattle.shared_hub.specs.HubParts.{drained_parts}
-use Rattle.shared_hub.proofs.EventSteps.{drain-comes, staged-fields, drained-fields}
+use Rattle.shared_hub.proofs.EventSteps.{drain-comes, drain-follows, staged-fields, drained-fields}
 use Rattle.shared_hub.proofs.hub.HubState.drain.Goals as goal
 use Rattle.shared_hub.proofs.hub.HubState.drain.Goals.{After-push_reserved}
 
@@ -23,7 +23,7 @@ invariant_of-self g c =
     rw (c.push_reserved.ensures.items, c.host_entry.ensures, c.push_reserved.ensures.capacity, count-is g c, c.drain-count.ensures.drained)
     (event-kept g.N.Naming.numbers s.entries.items s.limit _ (host_entry host.Drain (out.Unsigned (length h.pool.queued))) (staged host.Drain (drained_hub h)) (drained_parts s.parts) _ c.self.invariant.0
     (drain-comes h (rw (← c.self.view_is) at c.requires.looped) (rw (← c.self.view_is) at c.requires.alone)) refl
-    (staged-fields (drained_hub h) host.Drain code.Drained (drained_parts s.parts) s.progress (rw (rw (← c.self.view_is) at c.requires.looped) refl)
+    (staged-fields (drained_hub h) host.Drain code.Drained (drained_parts s.parts) s.progress (drain-follows h.stage (rw (← c.self.view_is) at c.requires.looped))
     (drained-fields h s.parts s.progress c.self.invariant.1)))
 
 pub returns-clause-drained : goal.returns-clause-drained
