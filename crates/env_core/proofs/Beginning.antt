@@ -11,6 +11,7 @@ use Rattle.napi_types.specs.declared.entry.Duty.TheVariants as duty
 use Rattle.napi_types.specs.declared.entry.Phase.{Phase}
 use Rattle.napi_types.specs.declared.entry.Phase.TheVariants as phase
 use Rattle.napi_types.specs.declared.entry.Why.{Why}
+use Rattle.napi_types.specs.parts.AsyncHooks.{with_begun}
 use Rattle.napi_types.specs.plain.Lists.{tail}
 use Rattle.napi_types.specs.parts.Book.{Book, Registration, TicketState, Registered, is_registered, is_begun, is_at, due_info, made_due_and_begun, made_ended, changed_where, moved, moved_at, with_registration, begun_in}
 use Rattle.napi_types.specs.parts.Duties.{duties_of}
@@ -25,7 +26,7 @@ use Rattle.napi_types.specs.environment.Ends.{duty_ended, without_innermost_fram
 use Rattle.napi_types.specs.environment.Environment.{Environment, TsfnRoot}
 use Rattle.napi_types.specs.environment.Hooked.{is_from_finals_on, IsHooked}
 use Rattle.napi_types.specs.environment.Registry.{Registry}
-use Rattle.napi_types.specs.environment.Tickets.{hooks_left, ticket_change}
+use Rattle.napi_types.specs.environment.Tickets.{hooks_left, ticket_change, hooks_waiting}
 use Rattle.napi_types.proofs.plain.Found.{same-self}
 use Rattle.napi_types.proofs.parts.Books.{length-changed_where}
 use Rattle.napi_types.proofs.parts.Moved.{IsUnder, PassesTest, under-ticket, is_at-changed_where, is_at-before}
@@ -152,14 +153,30 @@ hook-begun old new due k =
 -- the environment after the begin, by the phase
 abbrev begun_as : Phase → ℕ → Registration → Environment → Environment
 begun_as p n r e =
-    record e { book = moved_at (begun_in p) n e.book; hooks = hooks_left p n e.hooks; heap = with_frame e.heap; frames = frame_of_duty (due_info n r) ∷ e.frames }
+    record e {
+      book = moved_at (begun_in p) n e.book;
+      hooks = hooks_left p n e.hooks;
+      async_hooks = hooks_waiting p n e.async_hooks;
+      heap = with_frame e.heap;
+      frames = frame_of_duty (due_info n r) ∷ e.frames;
+    }
+
+-- where a hook begins
+abbrev hook_begun_with : ℕ → Environment → Heap → List Frame → Environment
+hook_begun_with n e heap frames = record e {
+  book = moved_at made_due_and_begun n e.book;
+  hooks = without_hook n e.hooks;
+  async_hooks = with_begun n e.async_hooks;
+  heap = heap;
+  frames = frames;
+}
 
 pub begun-hook : (e : Environment) (n : ℕ) (r : Registration) (heap : Heap) (frames : List Frame) (d : DueInfo) → e.phase ≡ phase.Hooks → d ≡ due_info n r → heap ≡ with_frame e.heap
     → frames ≡ frame_of_duty d ∷ e.frames
-    → record e { book = moved_at made_due_and_begun n e.book; hooks = without_hook n e.hooks; heap = heap; frames = frames } ≡ (ticket_change n r e).after
+    → hook_begun_with n e heap frames ≡ (ticket_change n r e).after
 begun-hook e n r heap frames d at told scoped more =
-    ap (λ (h : Heap). record e { book = moved_at made_due_and_begun n e.book; hooks = without_hook n e.hooks; heap = h; frames = frames }) scoped
-    ∙ ap (λ fs. record e { book = moved_at made_due_and_begun n e.book; hooks = without_hook n e.hooks; heap = with_frame e.heap; frames = fs }) (more ∙ ap (λ i. frame_of_duty i ∷ e.frames) told)
+    ap (λ (h : Heap). hook_begun_with n e h frames) scoped
+    ∙ ap (λ fs. hook_begun_with n e (with_frame e.heap) fs) (more ∙ ap (λ i. frame_of_duty i ∷ e.frames) told)
     ∙ sym (ap (λ p. begun_as p n r e) at)
 
 not-by-call : (c : Cause) → c ≢ cause.Call → is_by_call c ≡ false

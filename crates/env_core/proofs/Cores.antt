@@ -39,7 +39,7 @@ use Rattle.napi_types.proofs.parts.Books.{owed-begun, lowest-due, length-changed
 use Rattle.napi_types.proofs.parts.Moved.{IsUnder, PassesTest}
 use Rattle.napi_types.proofs.environment.AnswersKeep.{course-parts, KeepsButAsk, call_change-keeps, call-reserved}
 use Rattle.napi_types.proofs.environment.FrameChanges.{book_left, owed-left, KeepsButFrame, ended-keeps, left-parts}
-use Rattle.napi_types.proofs.environment.HookedSteps.{hooked-called, hooked-ended, hooked-begun, hooked-phase}
+use Rattle.napi_types.proofs.environment.HookedSteps.{hooked-called, hooked-ended, hooked-begun, hooked-phase, GivesNew}
 use Rattle.napi_types.proofs.environment.Registrations.{owed-in}
 use Rattle.env_core.specs.Journal.{JournalSeen, told_entry, last_reply}
 use Rattle.env_core.specs.Core.{Core, IsCore, after_change, room_in}
@@ -86,7 +86,9 @@ calls-keep old new c x calls =
 
 -- and that the hooks fit the book
 pub calls-hooked : (old new : Environment) (c : Call) (x : Entry) → Calls old c x new → IsHooked old → IsHooked new
-calls-hooked old new c x calls h = subst (λ (e : Environment). IsHooked e) (sym calls.after) (hooked-called old c (issued_number x.reply.out) h)
+calls-hooked old new c x calls h =
+    subst (λ (e : Environment). IsHooked e) (sym calls.after)
+    (hooked-called old c (issued_number x.reply.out) (subst (λ (y : Entry). GivesNew old y) calls.entry calls.fresh) h)
 
 -- a call of a function withdraws nothing
 called-drops : (e : Environment) (receiver : Option HandleId) (f : HandleId) (args : Args) (n : ℕ) (early deep : Option Status)
@@ -249,6 +251,7 @@ value-need (call.AddFinalizer object payload entry hint wanted) h = cc
 value-need (call.CallFunction receiver f args) h = cc
 value-need (call.SetInstanceData payload finalizer hint) h = cc
 value-need (call.AddEnvCleanupHook entry argument) h = cc
+value-need (call.AddAsyncCleanupHook entry argument) h = cc
 value-need (call.QueueAsyncWork work) h = cc
 value-need (call.CreateThreadsafeFunction f entry most first finalizer context) h = cc
 value-need (call.CallThreadsafeFunction f payload mode) h = cc

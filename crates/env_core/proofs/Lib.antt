@@ -1,3 +1,5 @@
+pub mod AsyncHooking
+pub mod AtOnce
 pub mod Attaching
 pub mod Beginning
 pub mod Called

@@ -10,13 +10,13 @@ use Rattle.napi_types.specs.declared.entry.SharedCall.{SharedCall}
 use Rattle.napi_types.specs.declared.status.Status.{Status}
 use Rattle.napi_types.specs.plain.Room.{one_if}
 use Rattle.napi_types.specs.parts.Book.{owed_tickets}
-use Rattle.napi_types.specs.environment.Changes.{with_noted_status}
+use Rattle.napi_types.specs.environment.Changes.{with_noted_status, with_none_waiting}
 use Rattle.napi_types.specs.environment.Environment.{Environment, TsfnRoot}
 use Rattle.napi_types.specs.environment.Hooked.{IsHooked}
 use Rattle.napi_types.specs.environment.JournalRoom.{gone_place, reserved_journal}
 use Rattle.napi_types.specs.environment.SharedCalls.{with_root, without_root, after_shared}
 use Rattle.napi_types.proofs.environment.AnswersKeep.{local-counted}
-use Rattle.napi_types.proofs.environment.HookedSteps.{unchanged}
+use Rattle.napi_types.proofs.environment.HookedSteps.{unchanged, hooked-abandoned}
 use Rattle.env_core.specs.Core.{IsCore}
 use Rattle.env_core.specs.Journal.{JournalSeen}
 use Rattle.env_core.specs.Sharing.{MayAwait}
@@ -109,3 +109,11 @@ finished-may n e room (Some s) may = record {
         count_by-le-length (λ (r : TsfnRoot). not (r.function == n)) e.tsfn_roots,
       );
 }
+
+-- the hooks that wait are abandoned
+pub abandoned-keeps : (e : Environment) → KeepsCounted e (with_none_waiting e)
+abandoned-keeps e = record { reserved = refl; handles = refl; scopes = refl; references = refl; tickets = refl; values = refl; hooked = hooked-abandoned e }
+
+pub abandoned-may : (e : Environment) (room : ℕ) (a : Option SharedCall) → MayAwait e room a → MayAwait (with_none_waiting e) room a
+abandoned-may e room None may = tt
+abandoned-may e room (Some s) may = record { standing = may.standing; within = may.within; place = may.place }

@@ -5,7 +5,7 @@ use Rattle.napi_types.specs.declared.entry.Phase.{Phase}
 use Rattle.napi_types.specs.declared.entry.Phase.TheVariants as phase
 use Rattle.napi_types.specs.declared.entry.SharedCall.{SharedCall}
 use Rattle.napi_types.specs.plain.Room.{Room, most_entries}
-use Rattle.napi_types.specs.environment.Changes.{Change, opening_change, gone_change, in_phase}
+use Rattle.napi_types.specs.environment.Changes.{Change, opening_change, gone_change, in_phase, with_none_waiting}
 use Rattle.napi_types.specs.environment.Environment.{Environment, OpenedWith, new_environment}
 use Rattle.napi_types.specs.environment.Hooked.{IsHooked}
 use Rattle.napi_types.specs.environment.JournalRoom.{journal_room, reserved_journal}
@@ -37,6 +37,10 @@ after_phase p position core = record core { env = in_phase p core.env; position 
 -- a core that notes the length of the history after an event of the hub that starts no phase
 abbrev pub at_position : ℕ → Core → Core
 at_position position core = record core { position = position }
+
+-- the hooks that wait are abandoned, at an event of the hub after which the history has that length
+abbrev pub after_abandon : ℕ → Core → Core
+after_abandon position core = record core { env = with_none_waiting core.env; position = position }
 
 -- the addon whose init frame is next, where one is to come
 abbrev pub next_init : Environment → Option ℕ

@@ -15,8 +15,9 @@ ghost use Rattle.napi_types.specs.environment.Changes.{call_change, init_change}
 ghost use Rattle.napi_types.specs.environment.Ends.{end_change};
 ghost use Rattle.napi_types.specs.environment.Refusals.{refusal_before_depth, depth_refusal};
 ghost use Rattle.napi_types.specs.environment.Tickets.{next_ticket};
+ghost use Rattle.napi_types.specs.runs.Choice.{waiting_hooks};
 ghost use Rattle.env_core.specs.Standing.{machine_frame};
-ghost use Rattle.env_core.specs.Core.{opened_core, after_change, after_phase, at_position, next_init, room_in};
+ghost use Rattle.env_core.specs.Core.{opened_core, after_change, after_phase, after_abandon, at_position, next_init, room_in};
 ghost use Rattle.env_core.specs.CoreSteps.{IfReply, IfEnter, IfStop, OnLastReply, Replies, Enters, EntersBy, RefusedAs, StopsBy, IsAtOnce, IsLocal, IsHandedOver};
 ghost use Rattle.env_core.specs.CoreSteps.{BeginsTicket};
 ghost use Rattle.env_core.specs.Journal.{last_reply};
@@ -480,9 +481,13 @@ impl Phased for EnvCore {
 
     ghost advances = { λ core to position new. new ≡ after_phase to position core };
 
+    ghost waiting = { λ core. waiting_hooks core.env };
+
     ghost finishes = { λ core id position new. new ≡ after_finish id.0 position core };
 
     ghost moves = { λ core position new. new ≡ at_position position core };
+
+    ghost abandons = { λ core position new. new ≡ after_abandon position core };
 
     fn phase(&self) -> Phase {
         EnvCore::phase(self)
@@ -490,6 +495,10 @@ impl Phased for EnvCore {
 
     fn has_local(&self) -> bool {
         EnvCore::has_local(self)
+    }
+
+    fn waiting(&self) -> u64 {
+        self.state.waiting_hooks()
     }
 
     fn advance(&mut self, to: Phase, position: u64) {
@@ -502,6 +511,11 @@ impl Phased for EnvCore {
     }
 
     fn moved(&mut self, position: u64) {
+        self.journal.note(position);
+    }
+
+    fn abandoned(&mut self, position: u64) {
+        self.state.abandon_hooks();
         self.journal.note(position);
     }
 }

@@ -91,7 +91,7 @@ impl Attachable {
         ensures { result ≡ is_accepted self body }
     {
         match body {
-            Body::Object { .. } | Body::Function { .. } => true,
+            Body::Object { .. } | Body::Linked { .. } | Body::Function { .. } => true,
             Body::External(_) => self == Attachable::ObjectsAndExternals,
             _ => false,
         }

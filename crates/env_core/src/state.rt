@@ -99,6 +99,7 @@ impl Model for State {
       attachments = attachments_seen state.store state.registry.parts.attachments;
       book = state.registry.parts.book;
       hooks = state.registry.parts.hooks;
+      async_hooks = state.registry.parts.async_hooks;
       instances = state.registry.parts.instances;
       tsfn_roots = tsfn_roots_seen state.store state.tsfn_roots;
       pending = pending_seen state.store state.exceptions.pending;

@@ -15,7 +15,7 @@ pub record KeptRegistry : Type 0 where
 
 -- the parts before anything is registered, with a place for the instance data of each of so many addons
 abbrev pub new_parts : ℕ → Registry
-new_parts addons = record { attachments = no_attachments; book = []; hooks = []; instances = replicate addons None }
+new_parts addons = record { attachments = no_attachments; book = []; hooks = []; async_hooks = []; instances = replicate addons None }
 
 -- the book gave the ticket
 abbrev pub IsGiven : Book → ℕ → Type 0

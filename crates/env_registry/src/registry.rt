@@ -32,7 +32,13 @@ impl Model for Registry {
     ghost Value = { KeptRegistry };
 
     ghost view = { λ r. record {
-      parts = record { attachments = r.wraps.attachments; book = r.book.book; hooks = r.hooks; instances = r.instances };
+      parts = record {
+        attachments = r.wraps.attachments;
+        book = r.book.book;
+        hooks = r.hooks.hooks;
+        async_hooks = r.hooks.async_hooks;
+        instances = r.instances;
+      };
       places = r.wraps.spare;
       slips = r.book.spare;
     } };

@@ -2,12 +2,14 @@
 ghost use Rattle.std.specs.Prelude.{◌≡◌, ◌<◌, ◌^◌, length, None, IfOk, OnErr};
 ghost use Rattle.napi_types.specs.declared.call.Call.TheVariants as call_of;
 ghost use Rattle.napi_types.specs.plain.CallFacts.{group_of};
+ghost use Rattle.napi_types.specs.parts.AsyncHooks.{count_waiting};
+ghost use Rattle.napi_types.specs.environment.Changes.{with_none_waiting};
 ghost use Rattle.napi_types.specs.environment.Hooked.{IsHooked};
 ghost use Rattle.napi_types.specs.environment.Refusals.{refusal_by_state};
 ghost use Rattle.env_core.specs.State.{AnswersInTime, FindsNoMemory, HasNumbersFor};
 
 use super::State;
-use napi_types::{Call, CallGroup, NoMemory, Out, Reply, Status};
+use napi_types::{AsyncHookId, Call, CallGroup, NoMemory, Out, Reply, Status};
 
 impl State {
     /// What a call on cleanup hooks answers.
@@ -26,6 +28,10 @@ impl State {
             Call::RemoveEnvCleanupHook(entry, argument) => {
                 Ok(self.remove_env_cleanup_hook(*entry, *argument))
             }
+            Call::AddAsyncCleanupHook(entry, argument) => {
+                self.add_async_cleanup_hook(*entry, *argument)
+            }
+            Call::RemoveAsyncCleanupHook(hook) => Ok(self.remove_async_cleanup_hook(*hook)),
             _ => unreachable!(),
         }
     }
@@ -73,5 +79,59 @@ impl State {
             dropped: self.registry.remove_hook(ticket),
             made: None,
         }
+    }
+
+    /// Adds an asynchronous hook of the addon that calls, gives its number, and registers it.
+    #[inline(never)]
+    pub(super) fn add_async_cleanup_hook(
+        &mut self,
+        entry: u32,
+        argument: u64,
+    ) -> Result<Reply, NoMemory>
+        requires hooked { IsHooked self.old }
+        requires tickets { length self.old.book < 2 ^ 62 }
+        ensures ok { IfOk result (λ reply. AnswersInTime self.old (call_of.AddAsyncCleanupHook entry argument) reply self.new) }
+        ensures err { OnErr result (self.new ≡ self.old) }
+        ensures unrefused { OnErr result (refusal_by_state self.old (call_of.AddAsyncCleanupHook entry argument) ≡ None) }
+    {
+        let addon = self.caller();
+        let (id, duty) = self.registry.add_async_hook(addon, entry, argument)?;
+        Ok(Reply {
+            status: Status::Ok,
+            out: Out::AsyncHook(id),
+            dropped: None,
+            made: Some(duty),
+        })
+    }
+
+    /// Removes an asynchronous hook, whoever added it, and withdraws the ticket of one that has not begun. It is refused where none has this
+    /// number, and where it was removed before.
+    #[inline(never)]
+    pub(super) fn remove_async_cleanup_hook(&mut self, hook: AsyncHookId) -> Reply
+        ensures { AnswersInTime self.old (call_of.RemoveAsyncCleanupHook hook) result self.new }
+    {
+        let Ok(dropped) = self.registry.remove_async_hook(hook) else {
+            return Reply::plain(Status::InvalidArg, Out::Nothing);
+        };
+        Reply {
+            status: Status::Ok,
+            out: Out::Nothing,
+            dropped,
+            made: None,
+        }
+    }
+
+    /// How many asynchronous hooks wait. Constant time.
+    pub fn waiting_hooks(&self) -> u64
+        ensures { result ≡ count_waiting self.now.async_hooks }
+    {
+        self.registry.waiting_hooks()
+    }
+
+    /// The asynchronous hooks that wait are abandoned.
+    pub fn abandon_hooks(&mut self)
+        ensures { self.new ≡ with_none_waiting self.old }
+    {
+        self.registry.abandon_hooks();
     }
 }

@@ -68,7 +68,11 @@ impl State {
         self.is_ten_or_later()
             || matches!(
                 body_of(&self.store, &self.scopes, handle),
-                Body::Object { .. } | Body::Function { .. } | Body::External(_) | Body::Symbol(_)
+                Body::Object { .. }
+                    | Body::Linked { .. }
+                    | Body::Function { .. }
+                    | Body::External(_)
+                    | Body::Symbol(_)
             )
     }
 

@@ -21,7 +21,7 @@ opened given limit entry room most =
       references = omega arith;
       tickets = omega arith;
       values = omega arith;
-      hooked = record { rise = h.rise; hooks = h.hooks; others = h.others; attached = h.attached; instances = h.instances };
+      hooked = record { rise = h.rise; hooks = h.hooks; others = h.others; attached = h.attached; instances = h.instances; async = h.async };
     }
 
 pub invariant_of-result : goal.invariant_of-result

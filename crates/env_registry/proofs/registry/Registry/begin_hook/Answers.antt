@@ -15,4 +15,4 @@ returns-clause-uncalled c =
     let s = c.self.inside in
     let n = c.in_ok-ticket.ticket.0 in
     if-told-uncalled s.wraps.attachments s.book.book n c.take_ticket.result c.self.invariant
-    (last-waits s.book.book (last_hook s.hooks) n c.in_ok-ticket.ensures.last (rw (← c.self.view_is) at c.requires)) c.take_ticket.ensures.told
+    (last-waits s.book.book (last_hook s.hooks.hooks) n c.in_ok-ticket.ensures.last (rw (← c.self.view_is) at c.requires)) c.take_ticket.ensures.told
