@@ -1,6 +1,7 @@
 -- A turn in which a call of the innermost frame is replied to, enters a frame, or is handed to the hub.
-use Rattle.std.proofs.Common.{◌≡◌, ◌<◌, ◌≤◌, ℕ, Bool, true, false, List, length, drop, refl, ap, subst, sym, ◌∙◌, arith, Option, Some, None, IfSome, MatchOption}
+use Rattle.std.proofs.Common.{◌≡◌, ◌<◌, ◌≤◌, ℕ, Bool, true, false, List, length, drop, refl, ap, subst, sym, ◌∙◌, arith, Option, Some, None, IfSome, MatchOption, IsTrue}
 use Rattle.std.specs.Option.{option_to_list}
+use Rattle.napi_types.proofs.environment.HookedSteps.{GivesNew}
 use Rattle.napi_types.specs.declared.call.Args.{Args}
 use Rattle.napi_types.specs.declared.call.Ask.{Ask}
 use Rattle.napi_types.specs.declared.call.Ask.TheVariants as ask
@@ -121,11 +122,12 @@ replied-turn {ps} {old} {all} {f} {a} i c r new now idle unended below is local 
 asked-running : (core : Core) {ps : List Plan} {all : Registers} {f : Frame} {a : Ask} → InFrame ps core.env all f a
     → (c : Call) (n : ℕ) (change : Change) (new : Core) (begun : Option DueInfo) (ending : Option FrameEnd) → core.awaited ≡ None → ending ≡ None
     → f.asks < most_asks
-    → asked_change core.env c n ≡ change → new ≡ after_change change core → HoldsDuty core.env.frames begun → IsRunning new begun ending
-asked-running core {ps} {all} {f} {a} i c n change new begun ending idle unended below same made held =
+    → asked_change core.env c n ≡ change → GivesNew core.env change.entry → new ≡ after_change change core → HoldsDuty core.env.frames begun
+    → IsRunning new begun ending
+asked-running core {ps} {all} {f} {a} i c n change new begun ending idle unended below same fresh made held =
     let here : new ≡ after_change (asked_change core.env c n) core = made ∙ ap (λ x. after_change x core) (sym same) in
     let S : Core → Type 0 = λ x. IsSoundEnvironment x.env in
-    running-idle new begun ending (subst S (sym here) (sound-asked i below c n))
+    running-idle new begun ending (subst S (sym here) (sound-asked i below c n (subst (λ (x : Change). GivesNew core.env x.entry) (sym same) fresh)))
     (ap (λ (x : Core). duties_of x.env.frames) here ∙ duties-asked core.env c n ∙ held) (ap (λ (x : Core). x.awaited) here ∙ idle) unended
 
 pub replied-running : (core : Core) {ps : List Plan} {all : Registers} {f : Frame} {a : Ask} → InFrame ps core.env all f a
@@ -134,7 +136,7 @@ pub replied-running : (core : Core) {ps : List Plan} {all : Registers} {f : Fram
 replied-running core {ps} {all} {f} {a} i c r new begun ending idle unended below reply held =
     let k : ℕ = issued_number r.out in
     asked-running core i c k (call_change core.env c k) new begun ending idle unended below
-    (asked_change-call_change core.env c k reply.at_once) reply.after held
+    (asked_change-call_change core.env c k reply.at_once) (subst (λ (q : Reply). IsTrue (is_fresh_result core.env q.out)) reply.answer reply.fresh) reply.after held
 
 -- A FRAME IS ENTERED
 enter_change-goes : {ps : List Plan} {core : Core} {all : AddonStates} {f : Frame} {a : Ask} → InFrame ps core.env all.registers f a
@@ -202,7 +204,7 @@ pub entered-running : (core : Core) {ps : List Plan} {all : Registers} {f : Fram
     → Enters core c target gifts new → HoldsDuty core.env.frames begun → IsRunning new begun ending
 entered-running core {ps} {all} {f} {a} i (call.CallFunction receiver g args) target gifts new begun ending idle unended below enters held =
     asked-running core i (call.CallFunction receiver g args) 0 (enter_change receiver g args core.env) new begun ending idle unended below
-    (asked_change-enter_change core.env receiver g args 0 enters.called.accepted) enters.after held
+    (asked_change-enter_change core.env receiver g args 0 enters.called.accepted) refl enters.after held
 entered-running core i c target gifts new begun ending idle unended below enters held = absurd enters
 
 -- the addon whose frame a call enters is there

@@ -92,7 +92,14 @@ sound-delivery e d alone uncalled there lasts s = record {
   asks = All-cons (λ (f : Frame). f.asks ≤ most_asks) (frame_of_duty d) e.frames (omega arith) s.asks;
   nested = nested-first (frame_of_duty d) e.frames alone uncalled;
   uncalled = s.uncalled;
-  hooked = record { rise = s.hooked.rise; hooks = s.hooked.hooks; others = s.hooked.others; attached = s.hooked.attached; instances = s.hooked.instances };
+  hooked = record {
+    rise = s.hooked.rise;
+    hooks = s.hooked.hooks;
+    others = s.hooked.others;
+    attached = s.hooked.attached;
+    instances = s.hooked.instances;
+    async = s.hooked.async;
+  };
   gone = λ g. absurd (lasts g);
 }
 

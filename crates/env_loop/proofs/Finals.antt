@@ -5,11 +5,11 @@ use Rattle.napi_types.specs.declared.entry.HostStep.{HostStep}
 use Rattle.napi_types.specs.declared.entry.HostStep.TheVariants as host
 use Rattle.napi_types.specs.declared.entry.Out.{Out}
 use Rattle.napi_types.specs.declared.entry.What.TheVariants as what
-use Rattle.napi_types.specs.hub.Hub.{Hub, Stage, Before, Live, LoopEnded, Drained, Final, stage_after}
+use Rattle.napi_types.specs.hub.Hub.{Hub, Stage, Before, Live, LoopEnded, HooksAbandoned, Drained, Final, stage_after}
 use Rattle.napi_types.specs.hub.HubMoves.{is_spent}
 use Rattle.napi_types.specs.hub.HubSteps.{IsHubNext, hub_step}
 use Rattle.napi_types.proofs.plain.Conditions.{and-left}
-use Rattle.napi_types.proofs.hub.HubCases.{HubCase, hub-case, comes_to_finals, goes, ends_loop, drains, delivers}
+use Rattle.napi_types.proofs.hub.HubCases.{HubCase, hub-case, comes_to_finals, goes, ends_loop, abandons, drains, delivers}
 use Rattle.napi_types.proofs.hub.HubHolds.{duty-stage}
 use Rattle.env_loop.specs.HubTurns.{SpentAtFinals}
 
@@ -18,13 +18,17 @@ only-finals : (s : Stage) (event : HostStep) → is_some (stage_after s event) �
 only-finals Drained host.Finals comes final = refl
 only-finals Before host.Go comes final = cc
 only-finals Live host.LoopEnd comes final = cc
+only-finals LoopEnded host.Abandon comes final = cc
 only-finals LoopEnded host.Drain comes final = cc
+only-finals HooksAbandoned host.Drain comes final = cc
 only-finals _ _ comes final = cc
 
 final-before : (h : Hub) (x : Entry) (told : Out) (n : Hub) → HubCase h x told n → n.stage ≡ Final → (h.stage ≡ Final) ⊎ (x.what ≡ what.Host host.Finals)
 final-before h x told _ (comes_to_finals is may) final = inr is
 final-before h x told _ (goes is may) final = let no : host.Go ≡ host.Finals = only-finals h.stage host.Go (and-left _ (is_none h.standing) may) final in cc
 final-before h x told _ (ends_loop is may) final = let no : host.LoopEnd ≡ host.Finals = only-finals h.stage host.LoopEnd (and-left _ (is_none h.standing) may) final in cc
+final-before h x told _ (abandons is may still) final =
+    let no : host.Abandon ≡ host.Finals = only-finals h.stage host.Abandon (and-left _ (is_none h.standing) may) final in cc
 final-before h x told _ (drains is may) final = let no : host.Drain ≡ host.Finals = only-finals h.stage host.Drain (and-left _ (is_none h.standing) may) final in cc
 final-before h x told _ (delivers d is next alone) final = inl (sym (duty-stage d.duty h) ∙ final)
 final-before h x told _ _ final = inl final

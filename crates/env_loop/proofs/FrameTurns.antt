@@ -20,7 +20,7 @@ use Rattle.napi_types.specs.environment.Hooked.{IsHooked}
 use Rattle.napi_types.specs.environment.Owners.{IsOwned}
 use Rattle.napi_types.proofs.environment.AnswersKeep.{course-parts}
 use Rattle.napi_types.proofs.environment.FrameChanges.{KeepsButFrame, ended-keeps, KeepsButFrames, asked_change-fits}
-use Rattle.napi_types.proofs.environment.HookedSteps.{hooked-asked, hooked-ended}
+use Rattle.napi_types.proofs.environment.HookedSteps.{hooked-asked, hooked-ended, GivesNew}
 use Rattle.napi_types.proofs.environment.Owners.{owned-asked, owned-ended, within-asked, within-ended}
 use Rattle.napi_types.proofs.environment.Registrations.{AreUncalled, uncalled-asked, uncalled-ended}
 use Rattle.napi_types.proofs.environment.StandingFrames.{nested-asked, nested-ended}
@@ -138,13 +138,13 @@ sound-after old new some s opened addons same owned asks nested uncalled hooked 
 
 -- after a call, ..
 pub sound-asked : {ps : List Plan} {e : Environment} {all : Registers} {f : Frame} {a : Ask} → InFrame ps e all f a → f.asks < most_asks → (c : Call) (n : ℕ)
-    → IsSoundEnvironment (asked_change e c n).after
-sound-asked {ps} {e} {all} {f} {a} i below c n =
+    → GivesNew e (asked_change e c n).entry → IsSoundEnvironment (asked_change e c n).after
+sound-asked {ps} {e} {all} {f} {a} i below c n new =
     let k : KeepsButFrames e (asked_change e c n).after (need c) = asked_change-fits e c n in
     let course = course-parts e (asked_change e c n).after k.course in
     sound-after e (asked_change e c n).after (in-some i) i.sound course.opened course.addons course.phase (owned-asked e.addons e c n (in-some i) i.sound.owned)
     (within-asked e c n (in-spare i below) i.sound.asks)
-    (nested-asked e c n (in-some i) i.sound.nested) (uncalled-asked e c n i.sound.uncalled) (hooked-asked e c n i.sound.hooked)
+    (nested-asked e c n (in-some i) i.sound.nested) (uncalled-asked e c n i.sound.uncalled) (hooked-asked e c n new i.sound.hooked)
 
 -- .. and after the end of a frame
 pub sound-ended : (e : Environment) → IsSoundEnvironment e → e.frames ≢ [] → (v : Option HandleId) (cut : Option Why)

@@ -1,5 +1,6 @@
 -- Nobody is lost in a run that came to its end.
 use Rattle.std.proofs.Common.{List}
+use Rattle.napi_types.proofs.all_runs.SettledHooks.{hooks-settled}
 use Rattle.napi_types.specs.declared.call.Ask.{Ask}
 use Rattle.napi_types.specs.declared.entry.Entry.{Entry}
 use Rattle.napi_types.specs.runs.Setting.{Setting, EndsBy, opening_of}
@@ -24,4 +25,5 @@ keeps-promises s asks xs ended =
       items = λ f. items-in-order s asks xs f ended.run;
       completed = λ n. starts-told s asks xs n ended;
       cancels = cancels-told s asks xs ended;
+      settled = hooks-settled s asks xs ended.run;
     }

@@ -1,4 +1,4 @@
--- The hub's events that begin no frame: the four great ones, and a function that closes or finishes.
+-- The hub's events that begin no frame: the great ones, and a function that closes or finishes.
 use Rattle.std.proofs.Common.{◌≡◌, ◌≢◌, ◌≤◌, ℕ, true, List, length, refl, ap, subst, sym, ◌∙◌, arith, Some, None}
 use Rattle.std.specs.Option.{unwrap_or}
 use Rattle.napi_types.specs.declared.entry.Entry.{Entry}
@@ -11,17 +11,17 @@ use Rattle.napi_types.specs.plain.Entries.{host_entry}
 use Rattle.napi_types.specs.plain.Phases.{next_phase}
 use Rattle.napi_types.specs.parts.Duties.{duties_of}
 use Rattle.napi_types.specs.scripts.Plans.{Plan}
-use Rattle.napi_types.specs.environment.Changes.{in_phase}
+use Rattle.napi_types.specs.environment.Changes.{in_phase, with_none_waiting}
 use Rattle.napi_types.specs.environment.Environment.{Environment}
 use Rattle.napi_types.specs.environment.SharedCalls.{without_root}
-use Rattle.napi_types.specs.hub.Hub.{Hub, Before, Live, LoopEnded, Drained, stage_after, IsStageOf}
+use Rattle.napi_types.specs.hub.Hub.{Hub, Before, Live, LoopEnded, Drained, stage_after, is_of_hooks, IsStageOf}
 use Rattle.napi_types.specs.hub.HubEvents.{close_step, finish_step}
 use Rattle.napi_types.specs.hub.HubMoves.{Closes, Finishes, hub_move, is_spent}
 use Rattle.napi_types.specs.hub.HubOwners.{IsOwnedHub}
 use Rattle.napi_types.specs.hub.HubSteps.{hub_step}
 use Rattle.napi_types.specs.runs.Choice.{local_choice, hub_choice_at, waiting_hooks}
-use Rattle.napi_types.specs.runs.Loop.{Event, Moves, Goes, EndsLoop, Drains, FinalsCome}
-use Rattle.napi_types.proofs.environment.HookedSteps.{hooked-phase}
+use Rattle.napi_types.specs.runs.Loop.{Event, Moves, Goes, EndsLoop, Abandons, Drains, FinalsCome}
+use Rattle.napi_types.proofs.environment.HookedSteps.{hooked-phase, hooked-abandoned}
 use Rattle.napi_types.proofs.environment.Owners.{owned-phase}
 use Rattle.napi_types.proofs.environment.Registrations.{uncalled-phase}
 use Rattle.napi_types.proofs.hub.HubOwners.{event-owned}
@@ -29,6 +29,7 @@ use Rattle.env_core.specs.Core.{Core, after_phase, at_position}
 use Rattle.env_core.specs.Sharing.{after_finish}
 use Rattle.shared_hub.specs.HubStates.{HubSeen, AddsEntry}
 use Rattle.shared_hub.specs.declared.naming.Numbers.{Numbers}
+use Rattle.shared_hub.proofs.EventSteps.{drain-follows}
 use Rattle.env_loop.specs.HubTurns.{IsMadeHubTurn}
 use Rattle.env_loop.specs.RecordedRuns.{Run, IsSoundEnvironment, IsRunning, FitsHub}
 use Rattle.env_loop.specs.Recording.{AddonStates}
@@ -66,11 +67,18 @@ sound-unrooted n e s = record {
   asks = s.asks;
   nested = s.nested;
   uncalled = s.uncalled;
-  hooked = record { rise = s.hooked.rise; hooks = s.hooked.hooks; others = s.hooked.others; attached = s.hooked.attached; instances = s.hooked.instances };
+  hooked = record {
+    rise = s.hooked.rise;
+    hooks = s.hooked.hooks;
+    others = s.hooked.others;
+    attached = s.hooked.attached;
+    instances = s.hooked.instances;
+    async = s.hooked.async;
+  };
   gone = s.gone;
 }
 
--- the four great events, ..
+-- the great events, ..
 pub go-event : (core : Core) (h : Hub) → hub_event core.env h ≡ Some Goes → core.env.phase ≡ phase.Init → h.stage ≡ Before → IsOwnedHub core.env.addons h
     → IsPlainEvent core h Goes (host_entry host.Go out.Nothing) (in_phase phase.Live core.env)
 go-event core h next here far owned = record {
@@ -106,13 +114,47 @@ end-event core h w next here far owned = record {
   };
   addons = refl;
   frames = refl;
-  shown = ap (λ s. unwrap_or (stage_after s host.LoopEnd) s) far;
+  shown = ap is_of_hooks (ap (λ s. unwrap_or (stage_after s host.LoopEnd) s) far);
   stands = refl;
   owned = event-owned core.env.addons h (host_entry host.LoopEnd (out.Ended w)) host.LoopEnd owned;
   sound = sound-phase core.env phase.Hooks phase.Live here refl (λ z. cc);
 }
 
-pub drain-event : (core : Core) (h : Hub) → hub_event core.env h ≡ Some Drains → core.env.phase ≡ phase.Hooks → h.stage ≡ LoopEnded
+-- the environment stays sound where the hooks that wait are abandoned
+sound-abandoned : (e : Environment) → IsSoundEnvironment e → IsSoundEnvironment (with_none_waiting e)
+sound-abandoned e s = record {
+  opened = s.opened;
+  owned = record { frames = s.owned.frames; functions = s.owned.functions; tickets = s.owned.tickets };
+  asks = s.asks;
+  nested = s.nested;
+  uncalled = s.uncalled;
+  hooked = hooked-abandoned e s.hooked;
+  gone = s.gone;
+}
+
+pub abandon-event : (core : Core) (h : Hub) → hub_event core.env h ≡ Some Abandons → core.env.phase ≡ phase.Hooks → h.stage ≡ LoopEnded
+    → IsOwnedHub core.env.addons h
+    → IsPlainEvent core h Abandons (host_entry host.Abandon (out.Unsigned (waiting_hooks core.env))) (with_none_waiting core.env)
+abandon-event core h next here far owned = record {
+  event = record {
+    next = next;
+    by = refl;
+    made = λ l history. refl;
+    tells = λ l history. refl;
+    given = λ l history ps rss. refl;
+    begins = refl;
+    spent = λ z. cc;
+  };
+  addons = refl;
+  frames = refl;
+  shown = subst (λ p. IsStageOf p (unwrap_or (stage_after h.stage host.Abandon) h.stage)) (sym here)
+      (ap is_of_hooks (ap (λ s. unwrap_or (stage_after s host.Abandon) s) far));
+  stands = refl;
+  owned = event-owned core.env.addons h (host_entry host.Abandon (out.Unsigned (waiting_hooks core.env))) host.Abandon owned;
+  sound = sound-abandoned core.env;
+}
+
+pub drain-event : (core : Core) (h : Hub) → hub_event core.env h ≡ Some Drains → core.env.phase ≡ phase.Hooks → is_of_hooks h.stage ≡ true
     → IsOwnedHub core.env.addons h
     → IsPlainEvent core h Drains (host_entry host.Drain (out.Unsigned (length h.pool.queued))) (in_phase phase.Drain core.env)
 drain-event core h next here far owned = record {
@@ -127,7 +169,7 @@ drain-event core h next here far owned = record {
   };
   addons = refl;
   frames = refl;
-  shown = ap (λ s. unwrap_or (stage_after s host.Drain) s) far;
+  shown = ap (λ o. unwrap_or o h.stage) (drain-follows h.stage far);
   stands = refl;
   owned = event-owned core.env.addons h (host_entry host.Drain (out.Unsigned (length h.pool.queued))) host.Drain owned;
   sound = sound-phase core.env phase.Drain phase.Hooks here refl (λ z. cc);

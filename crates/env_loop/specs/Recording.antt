@@ -1,5 +1,6 @@
 -- A run as it is recorded: the environment's core, the history, and what contracts see of the addons.
 use Rattle.std.specs.Prelude.{◌≡◌, ℕ, ◌<◌, List, ◌++◌, length, map, Some, None, IsTrue}
+use Rattle.napi_types.specs.all_runs.AbandonedHooks.{SettlesHooks}
 use Rattle.napi_types.specs.declared.call.Ask.{Ask}
 use Rattle.napi_types.specs.declared.duties.DueInfo.{DueInfo}
 use Rattle.napi_types.specs.declared.entry.Duty.TheVariants as duty
@@ -103,6 +104,8 @@ pub record KeepsPromises (s : Setting) (asks : List Ask) (trace : List Entry) : 
   pub completed : (n : ℕ) → TellsStarts (duty.Work n) trace
   -- each accepted cancel led to the completion, as cancelled, of the work that was last queued under its id, and that work never started
   pub cancels : CancelsHold trace
+  -- where the drain comes each asynchronous hook that began was removed by an accepted call, or was one of those that `abandon` counted
+  pub settled : SettlesHooks trace
 
 -- a run that came to its end, as it is left: the weave of the two lists is a run of the script to `gone`, which keeps what it promises. The journal stands in
 -- the order of its places, each entry of it in its place, each list has its own entries, the registers of the script's addons are the run's, and each addon has

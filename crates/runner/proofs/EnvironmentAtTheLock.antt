@@ -9,7 +9,7 @@ use Rattle.napi_types.specs.parts.Frames.{Frame}
 use Rattle.napi_types.specs.scripts.Plans.{Plan, Registers}
 use Rattle.napi_types.specs.environment.Environment.{Environment}
 use Rattle.napi_types.specs.runs.Choice.{local_choice}
-use Rattle.napi_types.specs.runs.Loop.{Event, Opens, Inits, Tickets, Moves, Goes, EndsLoop, Drains, FinalsCome, IsGone}
+use Rattle.napi_types.specs.runs.Loop.{Event, Opens, Inits, Tickets, Moves, Goes, EndsLoop, Abandons, Drains, FinalsCome, IsGone}
 use Rattle.turn_lock.specs.Passes.{PassState}
 use Rattle.turn_lock.specs.Rows.{own_rows}
 use Rattle.shared_hub.specs.declared.naming.Numbers.{Numbers}
@@ -89,6 +89,7 @@ gone-event (Some (Tickets k)) p is = cc
 gone-event (Some (Moves m)) p is = cc
 gone-event (Some Goes) p is = cc
 gone-event (Some (EndsLoop why)) p is = cc
+gone-event (Some Abandons) p is = cc
 gone-event (Some Drains) p is = cc
 gone-event (Some FinalsCome) p is = cc
 gone-event (Some IsGone) p is = cc

@@ -40,7 +40,7 @@ unstarted_hold_no_work {J} actors fresh = All-weaker IsUnstartedActor HoldsNoWor
     one (run.OfWorker w) f = subst (λ v. IsHandsFree v.held) (sym f) tt
 
 -- a hub that opens has few threads and workers
-fits-within : (a b t w bound most : ℕ) → a ≡ t → b ≡ w → 0 + (4 + a + b + (4 * 0 + 3 * 0 + 2 * 0) + 0 + 0) ≤ bound → bound ≤ most → t + w ≤ most
+fits-within : (a b t w bound most : ℕ) → a ≡ t → b ≡ w → 0 + (5 + a + b + (4 * 0 + 3 * 0 + 2 * 0) + 0 + 0) ≤ bound → bound ≤ most → t + w ≤ most
 fits-within a b t w bound most p q fits small = omega arith
 
 pub few_actors : (n : Numbers) (s : HubSeen) → IsLedHub n s → s.history ≡ [] → n.threads + n.workers ≤ most_entries

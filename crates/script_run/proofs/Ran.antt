@@ -33,7 +33,7 @@ lists-within version given handed texts threads workers journal history all firs
     let s : Setting = setting_with version plans texts threads workers in
     let fewer : length plans ≤ 8 = omega (arith, length-told-le given handed) in
     let opens : 2 + 2 * length plans ≤ most_entries = omega arith in
-    let owes : 4 + threads + workers ≤ most_entries = omega (arith, some, none) in
+    let owes : 5 + threads + workers ≤ most_entries = omega (arith, some, none) in
     let room : HasRoom s (weave journal history) (final_of s e.asks (weave journal history)) =
     room-suffices s e.asks (weave journal history) opens owes e.ended.run in
     (omega (arith, room.journal, e.journal_length), omega (arith, room.history, e.history_length))
@@ -85,6 +85,7 @@ ran-of script texts handed after left small counted enough ended loaded others t
         workers = workers;
         completed = e.promises.completed;
         cancels = e.promises.cancels;
+        settled = e.promises.settled;
       };
       loaded = loaded;
       others = others;

@@ -1,5 +1,6 @@
 -- The run of a script with the addons that were handed in, as its two lists tell it.
 use Rattle.std.specs.Prelude.{◌≡◌, ◌≤◌, ◌<◌, ◌^◌, ℕ, List, ◌++◌, length, map, drop, slice_get, true, Some, None, IfSome}
+use Rattle.napi_types.specs.all_runs.AbandonedHooks.{SettlesHooks}
 use Rattle.napi_types.specs.declared.call.Ask.{Ask}
 use Rattle.napi_types.specs.declared.duties.DueInfo.{DueInfo}
 use Rattle.napi_types.specs.declared.entry.Actor.{Actor}
@@ -54,7 +55,8 @@ pub record IsRunOf (script : Script) (handed : List Plan) (left : Record) (regis
   pub hooks : HooksFall (weave left.journal left.history)
   pub finals : FinalsRise (weave left.journal left.history)
   -- each completion, item, function's finalizer, finalizer and hook that was made and not withdrawn began exactly once, one that was withdrawn never, and no
-  -- other duty began; none was made twice, and only an accepted `remove_wrap`, `set_instance_data` or `remove_env_cleanup_hook` withdrew one
+  -- other duty began; none was made twice, and only an accepted `remove_wrap`, `set_instance_data`, `remove_env_cleanup_hook` or `remove_async_cleanup_hook`
+  -- withdrew one
   pub once : Once (weave left.journal left.history)
   -- the items of each thread-safe function count from 1 as they were accepted, and began in that order
   pub items : (f : ℕ) → CountItems f (weave left.journal left.history)
@@ -62,6 +64,9 @@ pub record IsRunOf (script : Script) (handed : List Plan) (left : Record) (regis
   pub completed : (n : ℕ) → TellsStarts (duty.Work n) (weave left.journal left.history)
   -- each accepted `cancel_async_work` led to the completion, with status 11, of the work that was last queued under its id, and that work never started
   pub cancels : CancelsHold (weave left.journal left.history)
+  -- where the drain came each asynchronous hook that began was removed by an accepted call, or was one of those that `abandon` counted, which came once at
+  -- most
+  pub settled : SettlesHooks (weave left.journal left.history)
   -- the entries of each thread are the calls of its script, in their order, each once, and then its end. It ended cut only where the next call had no room, and
   -- as full exactly there, or might want memory
   pub threads : (t : ℕ) (operations : List Op) → slice_get script.threads t ≡ Some operations → MadeItsScript (setting_of script handed) t operations left.history

@@ -12,7 +12,7 @@ use Rattle.napi_types.specs.declared.entry.Phase.TheVariants as phase
 use Rattle.napi_types.specs.parts.Frames.{Frame}
 use Rattle.napi_types.specs.scripts.Plans.{Plan}
 use Rattle.napi_types.specs.environment.Environment.{Environment}
-use Rattle.napi_types.specs.hub.Hub.{Stage, Before, Live, LoopEnded, Drained, Final, IsStageOf}
+use Rattle.napi_types.specs.hub.Hub.{Stage, Before, Live, Drained, Final, is_of_hooks, IsStageOf}
 use Rattle.napi_types.specs.hub.Waits.{SomebodyGoesOn}
 use Rattle.napi_types.specs.runs.Choice.{local_choice, local_choice_in, hub_choice, waiting_hooks}
 use Rattle.napi_types.specs.runs.Loop.{Event, IsGone, ticket_choice}
@@ -50,7 +50,7 @@ early-stage shown s is final never = never (sym is ∙ final)
 early-phase : (e : Environment) (p : Phase) (s : Stage) → IsStageOf p s → local_choice_in e p ≡ None → event_turn None p ≡ turn.NeedsHub → s ≢ Final
 early-phase e phase.Init s shows none needs = λ final. early-stage Before s shows final (λ is. cc)
 early-phase e phase.Live s shows none needs = λ final. early-stage Live s shows final (λ is. cc)
-early-phase e phase.Hooks s shows none needs = λ final. early-stage LoopEnded s shows final (λ is. cc)
+early-phase e phase.Hooks s shows none needs = λ final. let no : is_of_hooks Final ≡ true = ap is_of_hooks (sym final) ∙ shows in cc
 early-phase e phase.Drain s shows none needs = λ final. early-stage Drained s shows final (λ is. cc)
 early-phase e phase.Finals s shows none needs = absurd (always (ticket_choice e phase.Finals) none)
   where

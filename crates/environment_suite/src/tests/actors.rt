@@ -56,7 +56,7 @@ fn five_turns<N: Naming>(
     operations: OpList,
 ) -> ([ActorTurn; 5], usize, Out)
     requires named { N.numbers ≡ record { threads = 1; workers = 0; limits = record { journal = 0; history = history } } }
-    requires room { 5 ≤ history }
+    requires room { 6 ≤ history }
     requires most { history ≤ most_entries }
     requires few { length operations ≤ 16384 }
     requires kinds { All IsOperationOfThread operations }
@@ -85,7 +85,7 @@ fn five_turns<N: Naming>(
 
 /// The numbers are named here. The thread calls function 1, which is not there, and acquires it.
 fn thread_turns(rt: &impl Abort, alloc: Global, history: u32) -> ([ActorTurn; 5], usize, Out)
-    requires room { 5 ≤ history }
+    requires room { 6 ≤ history }
     requires most { history ≤ most_entries }
 {
     let operations = vec![in alloc;
@@ -111,7 +111,7 @@ fn a_thread_makes_its_calls_and_ends(rt: HostRuntime) {
 
 #[test]
 fn a_thread_is_cut_where_the_history_is_full(rt: HostRuntime) {
-    let (turns, entries, last) = thread_turns(&rt, rt.alloc(), 5);
+    let (turns, entries, last) = thread_turns(&rt, rt.alloc(), 6);
     const OVER: ActorTurn = ActorTurn::Ended;
     assert_eq!(rt;
         (turns, entries),
@@ -221,7 +221,7 @@ const NARROW: Entries = [
 /// A thread that makes two items, by calls that wait, and releases the function.
 fn calls_twice<N: Naming>(rt: &impl Abort, alloc: Global, history: u32, each: u32) -> Ran
     requires named { N.numbers ≡ record { threads = 1; workers = 0; limits = record { journal = 0; history = history } } }
-    requires room { 5 ≤ history }
+    requires room { 6 ≤ history }
     requires most { history ≤ most_entries }
 {
     let operations = vec![in alloc;
@@ -241,7 +241,7 @@ fn calls_twice<N: Naming>(rt: &impl Abort, alloc: Global, history: u32, each: u3
 
 /// The numbers are named here.
 fn thread_calls_twice(rt: &impl Abort, alloc: Global, history: u32, each: u32) -> Ran
-    requires room { 5 ≤ history }
+    requires room { 6 ≤ history }
     requires most { history ≤ most_entries }
 {
     calls_twice::<Brand>(rt, alloc, history, each)
@@ -309,7 +309,7 @@ const BEGUN: InJournal = ("begin", 0, 0);
 fn a_thread_is_cut_while_its_item_is_delivered(rt: HostRuntime) {
     compare(
         &rt,
-        &thread_calls_twice(&rt, rt.alloc(), 13, 1),
+        &thread_calls_twice(&rt, rt.alloc(), 14, 1),
         (
             11,
             &[

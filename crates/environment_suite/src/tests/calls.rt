@@ -3,12 +3,12 @@
 //! Handles, scopes, references and tickets count from 1 in the order in which they are given, over all frames, and none comes twice. A refused call gives
 //! none.
 use super::steps::{
-    advance, begin_next, cut, does, enters, finish_and_close, gives, leave, look, opened, refuses,
-    registers, run_next, tells, tells_tickets,
+    abandon, advance, begin_next, cut, does, end_ticket, enters, finish_and_close, gives, leave,
+    look, opened, refuses, registers, run_next, start_next, tells, tells_tickets,
 };
 use super::{DONE, NONE};
 use env_core::EnvCore;
-use napi_types::{Args, Call, HandleId, RefId, ScopeId, TextNo, Why};
+use napi_types::{Args, AsyncHookId, Call, HandleId, RefId, ScopeId, TextNo, Why};
 use std::process::Abort;
 
 const TRUE: HandleId = HandleId(4);
@@ -226,6 +226,39 @@ fn functions(rt: &impl Abort, core: &mut EnvCore) {
     gives(rt, core, Call::GetAndClearLastException, 26);
 }
 
+/// Three asynchronous hooks, of which the last is removed at once, and once alone.
+fn asynchronous_hooks(rt: &impl Abort, core: &mut EnvCore) {
+    tells_tickets(
+        rt,
+        core,
+        Call::AddAsyncCleanupHook(7, 60),
+        ("hook", 1),
+        [11, 0],
+    );
+    tells_tickets(
+        rt,
+        core,
+        Call::AddAsyncCleanupHook(7, 61),
+        ("hook", 2),
+        [12, 0],
+    );
+    tells_tickets(
+        rt,
+        core,
+        Call::AddAsyncCleanupHook(7, 62),
+        ("hook", 3),
+        [13, 0],
+    );
+    tells_tickets(
+        rt,
+        core,
+        Call::RemoveAsyncCleanupHook(AsyncHookId(3)),
+        ("status", 0),
+        [0, 13],
+    );
+    refuses(rt, core, Call::RemoveAsyncCleanupHook(AsyncHookId(3)), 1);
+}
+
 /// The other calls, and the second addon's frame.
 fn others(rt: &impl Abort, core: &mut EnvCore) {
     tells(rt, core, Call::GetVersion, "number", 10);
@@ -263,24 +296,38 @@ fn others(rt: &impl Abort, core: &mut EnvCore) {
         ("handle", 29),
         [10, 0],
     );
+    asynchronous_hooks(rt, core);
     tells(rt, core, Call::GetInstanceData, "number", 0);
     leave(rt, core, None, DONE);
 }
 
+/// In the frame of the hook that was added first another one, which waits, is removed, and none is added.
+fn first_asynchronous_hook(rt: &impl Abort, core: &mut EnvCore) {
+    let hook = start_next(rt, core);
+    does(rt, core, Call::RemoveAsyncCleanupHook(AsyncHookId(2)));
+    refuses(rt, core, Call::RemoveAsyncCleanupHook(AsyncHookId(2)), 1);
+    refuses(rt, core, Call::AddAsyncCleanupHook(7, 63), 9);
+    end_ticket(rt, core, hook, None);
+}
+
 /// The loop and the teardown.
 fn teardown(rt: &impl Abort, core: &mut EnvCore) {
-    // In the loop a ticket is due, though exit was asked. In `Hooks` that of the hook is next, and none after it. None is next in `Drain`.
+    // In the loop a ticket is due, though exit was asked. In `Hooks` that of the hook that was added last is next, and none after all have begun. One
+    // waits and is abandoned. None is next in `Drain`.
     advance(rt, core, 1);
-    look(rt, core, ("depth", 0, [106, 0, 905, 1, 1, 9, 0, 1]));
+    look(rt, core, ("depth", 0, [111, 0, 896, 1, 1, 9, 0, 1]));
     advance(rt, core, 2);
     finish_and_close(core, 2, 3);
+    run_next(rt, core, None, ("ticket", 12, [1, 7, 61, 2, 0, 0, 0, 0]));
+    first_asynchronous_hook(rt, core);
     run_next(rt, core, None, ("ticket", 7, [0, 2, 50, 0, 0, 0, 0, 0]));
     run_next(rt, core, None, ("no ticket", 0, NONE));
-    look(rt, core, ("depth", 0, [108, 3, 905, 1, 0, 9, 0, 2]));
-    advance(rt, core, 4);
+    look(rt, core, ("depth", 0, [120, 3, 893, 1, 0, 9, 0, 2]));
+    abandon(rt, core, 4);
+    advance(rt, core, 5);
     run_next(rt, core, None, ("no ticket", 0, NONE));
     // After `finals` all that is left is due, the lowest ticket first.
-    advance(rt, core, 5);
+    advance(rt, core, 6);
     run_next(rt, core, None, ("ticket", 1, [0, 1, 9, 0, 0, 0, 0, 0]));
     run_next(
         rt,
@@ -293,7 +340,7 @@ fn teardown(rt: &impl Abort, core: &mut EnvCore) {
     run_next(rt, core, None, ("ticket", 10, [1, 6, 41, 42, 0, 0, 0, 0]));
     run_next(rt, core, None, ("no ticket", 0, NONE));
     advance(rt, core, 0);
-    look(rt, core, ("depth", 0, [119, 5, 905, 1, 0, 9, 0, 5]));
+    look(rt, core, ("depth", 0, [131, 6, 893, 1, 0, 9, 0, 5]));
 }
 
 #[test]
@@ -305,5 +352,5 @@ fn each_call_succeeds(rt: HostRuntime) {
     functions(&rt, &mut core);
     others(&rt, &mut core);
     teardown(&rt, &mut core);
-    assert_eq!(rt; core.into_journal().items().len(), 119);
+    assert_eq!(rt; core.into_journal().items().len(), 131);
 }

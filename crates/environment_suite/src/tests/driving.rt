@@ -126,7 +126,7 @@ pub fn opened_hub<N: Naming>(
     history: u32,
 ) -> HubState<ScriptJob, N>
     requires named { N.numbers ≡ record { threads = threads; workers = workers; limits = record { journal = 0; history = history } } }
-    requires room { 4 + threads + workers ≤ history }
+    requires room { 5 + threads + workers ≤ history }
     requires most { history ≤ most_entries }
     ensures { result ≡ hub_seen N.numbers [] }
 {

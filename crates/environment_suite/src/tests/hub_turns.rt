@@ -29,7 +29,7 @@ fn ran<N: Naming>(
 ) -> Ran
     requires named { N.numbers ≡ record { threads = 0; workers = 0; limits = record { journal = 0; history = places.1 } } }
     requires one { length addons.items ≡ 1 }
-    requires room { (4 ≤ places.0) × (4 ≤ places.1) }
+    requires room { (4 ≤ places.0) × (5 ≤ places.1) }
     requires most { (places.0 ≤ most_entries) × (places.1 ≤ most_entries) }
 {
     let mut hub = opened_hub::<N>(rt, alloc, 0, 0, places.1);
@@ -51,7 +51,7 @@ fn ran_within(
     places: (u32, u32),
 ) -> Ran
     requires one { length addons.items ≡ 1 }
-    requires room { (4 ≤ places.0) × (4 ≤ places.1) }
+    requires room { (4 ≤ places.0) × (5 ≤ places.1) }
     requires most { (places.0 ≤ most_entries) × (places.1 ≤ most_entries) }
 {
     ran::<Brand>(rt, alloc, addons, places)
@@ -141,7 +141,7 @@ fn compare(
     places: (u32, u32),
     expected: (u64, &[InJournal], &[InHistory]),
 ) {
-    let within = (places.0.clamp(4, 100), places.1.clamp(4, 100));
+    let within = (places.0.clamp(4, 100), places.1.clamp(5, 100));
     let found = ran_within(rt, alloc, callers(rt, alloc, entries), within);
     assert_eq!(rt; (found.0, found.1.as_slice(), found.2.as_slice()), expected);
 }
@@ -154,7 +154,7 @@ fn a_frame_of_the_hub_is_cut_in_the_turn_after_its_call_was_stopped(rt: HostRunt
         &rt,
         rt.alloc(),
         THREE_CALLS,
-        (100, 17),
+        (100, 18),
         (
             21,
             &[OPENED, BEGUN, ("status", 0, 2), ("status", 0, 15)],
@@ -186,7 +186,7 @@ fn a_frame_is_cut_whose_call_the_hub_stopped(rt: HostRuntime) {
         &rt,
         rt.alloc(),
         THREE_CALLS,
-        (100, 6),
+        (100, 7),
         (
             8,
             &[OPENED, BEGUN, ("cut for room", 0, 0), ("status", 0, 4)],

@@ -216,6 +216,15 @@ pub fn finish_and_close<P: Phased>(core: &mut P, finished: u64, closed: u64) {
     core.moved(closed);
 }
 
+/// The asynchronous hooks that wait are abandoned, at this position.
+pub fn abandon(rt: &impl Abort, core: &mut EnvCore, position: u64) {
+    assert!(rt;
+        core.phase() == Phase::Hooks && core.waiting() > 0,
+        "no hook waits in this phase"
+    );
+    core.abandoned(position);
+}
+
 /// Whether the duty is one of the hub.
 fn is_of_hub(duty: Duty) -> bool
     ensures { result ≡ is_hub_duty (Some duty) }

@@ -19,7 +19,7 @@ invariant_of-self g c =
     let m =
     torn-moves g.row.J.Denot n run c.args.hub.now c.teardown_step.new.hub c.teardown_step.new.core t
     (λ none. let no = e.nothing.1 (torn-local n run c.args.hub.now t, none) in cc)
-    e.step (record { event = e.event; drained = e.drained; finals = e.finals; closed = e.closed; finished = e.finished }) in
+    e.step (record { event = e.event; abandoned = e.abandoned; drained = e.drained; finals = e.finals; closed = e.closed; finished = e.finished }) in
     plain-running n run c.args.hub.now c.teardown_step.new.hub c.teardown_step.new.core at m
 
 pub deliver-requires-clause-hub : goal.deliver-requires-clause-hub
@@ -77,7 +77,7 @@ returns-in-Moved-clause-turn g c =
     let m =
     torn-moves g.row.J.Denot n run c.args.hub.now c.teardown_step.new.hub c.teardown_step.new.core t
     (λ none. let no = e.nothing.1 (torn-local n run c.args.hub.now t, none) in cc)
-    e.step (record { event = e.event; drained = e.drained; finals = e.finals; closed = e.closed; finished = e.finished }) in
+    e.step (record { event = e.event; abandoned = e.abandoned; drained = e.drained; finals = e.finals; closed = e.closed; finished = e.finished }) in
     moved-turn n _ run c.args.self.now c.args.hub.now c.teardown_step.new.hub _ c.teardown_step.new.core c.self.view_is at m
 
 pub returns-in-Begin-clause-turn : goal.returns-in-Begin-clause-turn

@@ -1,0 +1,8 @@
+use Rattle.runner.proofs.running.fn.run_in_scope.scope+FnOnce.call_once.Goals as goal
+
+-- what the closure asks is what it is called with
+pub scope-requires : goal.scope-requires
+scope-requires g c =
+    let asked = c.requires.1.1.1.1 in
+    let sent = asked.1.1.1.1 in
+    (sent.0, (sent.1, (sent.2, (sent.3, (sent.4, (asked.0, (asked.1.0, (asked.1.1.0, asked.1.1.1.0))))))))
