@@ -36,7 +36,7 @@ use Rattle.napi_types.proofs.environment.FrameEnds.{ended-ends}
 use Rattle.napi_types.proofs.hub.HubKeeps.{hub_step-what, other-calls, thread-shared}
 use Rattle.napi_types.proofs.runs.Forms.{shared-what}
 use Rattle.napi_types.proofs.runs.SharedSteps.{hub_step-end}
-use Rattle.napi_types.proofs.runs.StepCases.{StepCase, shares, leaves, passes, moves, others, event_before}
+use Rattle.napi_types.proofs.runs.StepCases.{StepCase, shares, leaves, passes, abandons, moves, others, event_before}
 use Rattle.napi_types.proofs.all_runs.Orderly.{Orderly, orderly-opens, along-orderly}
 use Rattle.machine_laws.specs.ExitLaws.{is_shared_call, has_shared}
 
@@ -113,6 +113,7 @@ step-bare m _ (leaves v cut may ours) comes none bare =
     let x : Entry = (end_change v cut m.env).entry in
     subst (λ (t : HubStep). IsBare t.after) (sym (hub_step-end m.hub x (ended-ends v cut m.env).who (ended-ends v cut m.env).is)) (ended-bare m.hub x m.hub.standing bare)
 step-bare m _ (passes p o q) comes none bare = passed-bare m.hub p o bare
+step-bare m _ (abandons here far left alone) comes none bare = record { closing = bare.closing; pool = bare.pool; functions = bare.functions }
 step-bare m _ (moves move next moving alone) comes none bare = let no : None ≡ Some move = sym (bare-move m.hub bare) ∙ next in cc
 step-bare m _ (others x other) comes none bare =
     others-bare m.hub x other (and-right (has_room m x.what) (hub_step m.hub x).may comes) (sym (ap is_shared_call (hub_step-what m.hub x)) ∙ none) bare

@@ -19,11 +19,11 @@ use Rattle.napi_types.specs.parts.Hooks.{Hook, last_hook}
 use Rattle.napi_types.specs.environment.Changes.{issued_number, call_change}
 use Rattle.napi_types.specs.environment.Entering.{asked_change}
 use Rattle.napi_types.specs.environment.Environment.{Environment}
-use Rattle.napi_types.specs.hub.Hub.{Stage, Live, Drained}
+use Rattle.napi_types.specs.hub.Hub.{Stage}
 use Rattle.napi_types.specs.hub.HubMoves.{HubMove, Delivers, Closes, Finishes, hub_move}
 use Rattle.napi_types.specs.hub.HubEvents.{begin_step, delivery_entry}
 use Rattle.napi_types.specs.runs.Choice.{local_choice, local_choice_in, hub_choice, waiting_hooks}
-use Rattle.napi_types.specs.runs.Loop.{Event, Tickets, Moves, Goes, EndsLoop, Drains, FinalsCome}
+use Rattle.napi_types.specs.runs.Loop.{Event, Tickets, Moves, Goes, EndsLoop, Abandons, Drains, FinalsCome}
 use Rattle.napi_types.specs.runs.Machine.{Machine}
 use Rattle.napi_types.specs.runs.Step.{Step, ticket_step, move_step, event_step, chosen, step}
 use Rattle.napi_types.proofs.plain.Lists.{find-passes}
@@ -34,9 +34,9 @@ use Rattle.napi_types.proofs.hub.HubDuties.{delivery-of_hub}
 use Rattle.napi_types.proofs.runs.Forms as form
 use Rattle.napi_types.proofs.runs.Forms.{Form, form-of, shared-what, ended-what, event-what, other-what, chosen-next}
 use Rattle.napi_types.proofs.runs.SharedSteps.{others-none}
-use Rattle.napi_types.proofs.runs.Chosen.{OwnChoice, opens, inits, exits, due_in_loop, hooks, due_at_end, ends, own-choice, HubChoice, goes, idles, quiets, drains, finals, moves_in_loop, moves_at_end, hub-choice, chosen-by}
-use Rattle.machine_laws.specs.Choices.{begins_due_tickets_in, LowestDueTicketComesFirst, IsOfHook, LastHookComesFirst, BeginsLowest, BeginsLastHook, BeginsOfHub, TicketsBeginAtTheirMoments, LowestDueIsLowest}
-use Rattle.machine_laws.proofs.Choosing.{Happens}
+use Rattle.napi_types.proofs.runs.Chosen.{OwnChoice, opens, inits, exits, due_in_loop, hooks, due_at_end, ends, own-choice, HubChoice, goes, idles, quiets, abandons, drains, drains_later, finals, moves_in_loop, moves_in_hooks, moves_at_end, hub-choice, chosen-by}
+use Rattle.machine_laws.specs.Choices.{begins_due_tickets_in, LowestDueTicketComesFirst, IsOfHook, LastHookComesFirst, BeginsLowest, BeginsLastHook, DeliversNow, BeginsOfHub, TicketsBeginAtTheirMoments, LowestDueIsLowest}
+use Rattle.machine_laws.proofs.Choosing.{Happens, some-wait}
 
 -- WHAT COMES FIRST
 -- where due tickets begin the lowest is chosen, ..
@@ -133,8 +133,7 @@ delivered : (m : Machine) (d e : Duty) (told : Option Duty) → told ≡ Some e 
 delivered m d e told here there = let same : Some d ≡ Some e = sym there ∙ here in cc
 
 move-begins : (m : Machine) (move : HubMove) (d : Duty) (x : Entry) → m.env.frames ≡ [] → local_choice m.env ≡ None
-    → (m.hub.stage ≡ Live) ⊎ (m.hub.stage ≡ Drained)
-    → hub_move m.hub ≡ Some move → x ≡ (move_step m move).entry → IsTrue (event_step m (Moves move)).may → Begins x d → BeginsSo m d x
+    → DeliversNow m → hub_move m.hub ≡ Some move → x ≡ (move_step m move).entry → IsTrue (event_step m (Moves move)).may → Begins x d → BeginsSo m d x
 move-begins m (Delivers info) d x alone none moment next is may begins =
     let entry : x ≡ delivery_entry info = is ∙ ap (λ o. (begin_step m.hub (delivery_entry info) o).entry) next in
     let same : d ≡ info.duty = delivered m d info.duty (told_duty x.reply.out) (ap (λ (y : Entry). told_duty y.reply.out) entry) begins.1 in
@@ -161,12 +160,18 @@ hub-begins m _ _ d x here alone none (idles unmoved idle) is may begins =
     absurd (none-begins x (what.Host host.LoopEnd) d (ap (λ (y : Entry). y.what) is ∙ event-what m (EndsLoop loop_end.Idle) may) refl begins)
 hub-begins m _ _ d x here alone none (quiets unmoved busy quiet) is may begins =
     absurd (none-begins x (what.Host host.LoopEnd) d (ap (λ (y : Entry). y.what) is ∙ event-what m (EndsLoop loop_end.Quiet) may) refl begins)
-hub-begins m _ _ d x here alone none drains is may begins =
+hub-begins m _ _ d x here alone none (abandons some still quiet) is may begins =
+    absurd (none-begins x (what.Host host.Abandon) d (ap (λ (y : Entry). y.what) is ∙ event-what m Abandons may) refl begins)
+hub-begins m _ _ d x here alone none (drains unwaited) is may begins =
+    absurd (none-begins x (what.Host host.Drain) d (ap (λ (y : Entry). y.what) is ∙ event-what m Drains may) refl begins)
+hub-begins m _ _ d x here alone none drains_later is may begins =
     absurd (none-begins x (what.Host host.Drain) d (ap (λ (y : Entry). y.what) is ∙ event-what m Drains may) refl begins)
 hub-begins m _ _ d x here alone none (finals unmoved spent) is may begins =
     absurd (none-begins x (what.Host host.Finals) d (ap (λ (y : Entry). y.what) is ∙ event-what m FinalsCome may) refl begins)
 hub-begins m _ _ d x here alone none (moves_in_loop move next) is may begins = move-begins m move d x alone none (inl here) next is may begins
-hub-begins m _ _ d x here alone none (moves_at_end move next) is may begins = move-begins m move d x alone none (inr here) next is may begins
+hub-begins m _ _ d x here alone none (moves_at_end move next) is may begins = move-begins m move d x alone none (inr (inl here)) next is may begins
+hub-begins m _ _ d x here alone none (moves_in_hooks some move next) is may begins =
+    move-begins m move d x alone none (inr (inr (here, some-wait (waiting_hooks m.env) some))) next is may begins
 
 event-begins : (m : Machine) (d : Duty) (x : Entry) → Happens m x → Begins x d → BeginsSo m d x
 event-begins m d x h begins = by (chosen-by m h.event h.next)

@@ -1,7 +1,8 @@
 -- What may come where no frame stands, and where one does.
-use Rattle.std.proofs.Common.{◌≡◌, ◌≤◌, ℕ, Bool, true, false, List, [], ◌∷◌, IsTrue, refl, ap, sym, ◌∙◌, subst, Option, Some, None, ◌⊎◌, inl, inr}
-use Rattle.std.proofs.lemmas.Bool.{ltb-false}
-use Rattle.std.specs.Option.{option_or}
+use Rattle.std.proofs.Common.{◌≡◌, ◌≤◌, ◌<◌, ◌==◌, ℕ, zero, suc, cond, Bool, true, false, List, [], ◌∷◌, filter, length, IsTrue, refl, ap, sym, ◌∙◌, subst, Option, Some, None, ◌⊎◌, inl, inr, arith}
+use Rattle.std.proofs.lemmas.Bool.{eqb-true, ltb-false}
+use Rattle.std.proofs.lemmas.Option.{same_Some}
+use Rattle.std.specs.Option.{option_or, unwrap_or}
 use Rattle.napi_types.specs.declared.call.Ask.{Ask}
 use Rattle.napi_types.specs.declared.call.Ask.TheVariants as ask
 use Rattle.napi_types.specs.declared.call.Call.{Call}
@@ -18,28 +19,32 @@ use Rattle.napi_types.specs.declared.entry.Why.{Why}
 use Rattle.napi_types.specs.declared.ids.HandleId.{HandleId}
 use Rattle.napi_types.specs.plain.Entries.{cut_of, is_begin}
 use Rattle.napi_types.specs.plain.Guards.{is_shared}
+use Rattle.napi_types.specs.parts.AsyncHooks.{AsyncHook, Abandoned, is_waiting, in_state, count_waiting, with_abandoned}
 use Rattle.napi_types.specs.parts.Book.{Registration, registration_at}
 use Rattle.napi_types.specs.parts.Frames.{Frame, duty_of, is_hub_duty}
 use Rattle.napi_types.specs.environment.Changes.{issued_number, may_ask}
 use Rattle.napi_types.specs.environment.Ends.{end_change}
 use Rattle.napi_types.specs.environment.Entering.{asked_change}
 use Rattle.napi_types.specs.environment.Environment.{Environment}
-use Rattle.napi_types.specs.hub.Hub.{IsStageOf, Hub, Stage, Before, LoopEnded, Drained}
+use Rattle.napi_types.specs.hub.Hub.{IsStageOf, Hub, Stage, Before, Live, LoopEnded, HooksAbandoned, Drained, Final, stage_after, is_of_hooks}
 use Rattle.napi_types.specs.hub.HubEvents.{begin_step, delivery_entry}
-use Rattle.napi_types.specs.hub.HubMoves.{Delivers, Closes, Finishes, hub_move, is_spent}
+use Rattle.napi_types.specs.hub.HubMoves.{Delivers, Closes, Finishes, hub_move, is_quiet, is_spent}
 use Rattle.napi_types.specs.runs.Choice.{local_choice, hub_choice, choice, waiting_hooks}
-use Rattle.napi_types.specs.runs.Loop.{Event, Opens, Inits, Tickets, Moves, Goes, EndsLoop, Drains, FinalsCome, IsGone}
+use Rattle.napi_types.specs.runs.Loop.{Event, Opens, Inits, Tickets, Moves, Goes, EndsLoop, Abandons, Drains, FinalsCome, IsGone}
 use Rattle.napi_types.specs.runs.Machine.{Machine}
-use Rattle.napi_types.specs.runs.Run.{IsNext, after}
-use Rattle.napi_types.specs.runs.Setting.{final_of}
+use Rattle.napi_types.specs.runs.Run.{IsNext, IsRunBy, after}
+use Rattle.napi_types.specs.runs.Setting.{Setting, opening_of, final_of}
 use Rattle.napi_types.specs.runs.Step.{Step, locally, ticket_step, event_step, chosen, may_cut, call_step_on, end_step_on, frame_step, step}
 use Rattle.napi_types.proofs.environment.Cases.{asked-by}
 use Rattle.napi_types.proofs.runs.Forms.{Form, form-of, shared-what, ended-what, event_what, event-what, other-what, by-env, frame-next, chosen-next}
 use Rattle.napi_types.proofs.runs.Forms as form
-use Rattle.napi_types.proofs.runs.SharedSteps.{is_of_others, others-none}
-use Rattle.napi_types.proofs.runs.Chosen.{chosen-move, OwnChoice, exits, due_in_loop, hooks, due_at_end, ends, own-choice, NoChoice, begun, unhooked, no-choice, HubChoice, goes, drains, finals, hub-choice, chosen-by}
-use Rattle.napi_types.proofs.all_runs.Orderly.{orderly-run}
-use Rattle.machine_laws.specs.Choices.{is_of_frames, NoneIsChosenInFrames, TellsFrame, BeginsTellTheirFrames, may_come_to, OwnEventsComeFirst, HubEventsComeLast, MayGo, GoComesAfterInitFrames, GoneComesAfterFinals, HubIsInPhase, GoComesOnlyAfterInitFrames, DrainComesOnlyAfterHooks, FinalsComeOnlyOnceAllEnded}
+use Rattle.napi_types.proofs.environment.FrameEnds.{ended-ends}
+use Rattle.napi_types.proofs.runs.SharedSteps.{is_of_others, others-none, end-stage, shares-still, moves-still, others-still}
+use Rattle.napi_types.proofs.runs.StepCases.{InPhase}
+use Rattle.napi_types.proofs.runs.Runs.{along-run}
+use Rattle.napi_types.proofs.runs.Chosen.{chosen-move, OwnChoice, exits, due_in_loop, hooks, due_at_end, ends, own-choice, NoChoice, begun, unhooked, no-choice, HubChoice, goes, abandons, drains, drains_later, finals, hub-choice, chosen-by}
+use Rattle.napi_types.proofs.all_runs.Orderly.{Orderly, orderly-opens, orderly-run, next-orderly}
+use Rattle.machine_laws.specs.Choices.{is_of_frames, NoneIsChosenInFrames, TellsFrame, BeginsTellTheirFrames, may_come_to, OwnEventsComeFirst, HubEventsComeLast, MayGo, GoComesAfterInitFrames, GoneComesAfterFinals, HubIsInPhase, GoComesOnlyAfterInitFrames, IsReadyToAbandon, AbandonComesOnlyWhereHooksWait, DrainComesNextAfterAbandon, DrainComesOnlyAfterHooks, FinalsComeOnlyOnceAllEnded}
 
 -- IN A FRAME
 -- an entry of a frame
@@ -95,6 +100,7 @@ event-tells m (Moves (Finishes n)) next may is = other-tells (event_step m (Move
 event-tells m Opens next may is = cc
 event-tells m Goes next may is = other-tells (event_step m Goes) _ (event-what m Goes may) refl is
 event-tells m (EndsLoop w) next may is = other-tells (event_step m (EndsLoop w)) _ (event-what m (EndsLoop w) may) refl is
+event-tells m Abandons next may is = other-tells (event_step m Abandons) _ (event-what m Abandons may) refl is
 event-tells m Drains next may is = other-tells (event_step m Drains) _ (event-what m Drains may) refl is
 event-tells m FinalsCome next may is = other-tells (event_step m FinalsCome) _ (event-what m FinalsCome may) refl is
 event-tells m IsGone next may is = cc
@@ -260,6 +266,188 @@ go-of-runs s bs xs a x run next is =
     let may : MayGo m = go-last m a x next is in
     record { phase = init; alone = may.alone; opened = may.opened init; begun = may.begun init }
 
+-- ABANDON
+-- in the stages of the hooks the phase is theirs
+pub hooks-phase : (p : Phase) (s : Stage) → IsStageOf p s → is_of_hooks s ≡ true → p ≡ phase.Hooks
+hooks-phase phase.Hooks s far is = refl
+hooks-phase _ s far is = let z : true ≡ false = sym is ∙ ap is_of_hooks far in cc
+
+pub none-left : (e : Environment) (p : Phase) → p ≡ phase.Hooks → NoChoice e p → e.hooks ≡ []
+none-left e _ here (unhooked none) = none
+none-left e _ here _ = cc
+
+pub some-wait : (n : ℕ) → (n == 0) ≡ false → 0 < n
+some-wait zero some = cc
+some-wait (suc n) some = omega arith
+
+-- it is the hub's event while hooks wait
+is-abandon : (v : Event) → event_what v ≡ host.Abandon → v ≡ Abandons
+is-abandon Abandons is = refl
+is-abandon (Moves (Delivers d)) is = cc
+is-abandon _ is = cc
+
+record AbandonsFrom (m : Machine) : Type 0 where
+  pub none : local_choice m.env ≡ None
+  pub stage : m.hub.stage ≡ LoopEnded
+  pub waits : 0 < waiting_hooks m.env
+  pub unmoved : hub_move m.hub ≡ None
+  pub quiet : is_quiet m.hub ≡ true
+
+chosen-abandon : (m : Machine) → choice m ≡ Some Abandons → AbandonsFrom m
+chosen-abandon m is = by (chosen-by m Abandons is)
+  where
+    own : (p : Phase) → OwnChoice m.env p Abandons → ⊥
+    own p o = elim o [ ]
+
+    looped : (s : Stage) → m.hub.stage ≡ s → local_choice m.env ≡ None → HubChoice m.hub (waiting_hooks m.env) s Abandons → AbandonsFrom m
+    looped _ here none (abandons some unmoved quiet) =
+        record { none = none; stage = here; waits = some-wait (waiting_hooks m.env) some; unmoved = unmoved; quiet = quiet }
+
+    by : (local_choice m.env ≡ Some Abandons) ⊎ ((local_choice m.env ≡ None) × (hub_choice m.hub (waiting_hooks m.env) ≡ Some Abandons)) → AbandonsFrom m
+    by (inl mine) = absurd (own m.env.phase (own-choice m.env m.env.phase Abandons mine))
+    by (inr hubs) = looped m.hub.stage refl hubs.0 (hub-choice m.hub (waiting_hooks m.env) m.hub.stage Abandons hubs.1)
+
+abandon-ready : (m : Machine) (x : Entry) → InPhase m → (h : Happens m x) → h.event ≡ Abandons → IsReadyToAbandon m x
+abandon-ready m x far h is =
+    let from : AbandonsFrom m = chosen-abandon m (h.next ∙ ap Some is) in
+    let here : m.env.phase ≡ phase.Hooks = hooks-phase m.env.phase m.hub.stage far (ap is_of_hooks from.stage) in
+    record {
+      phase = here;
+      alone = h.alone;
+      spent = none-left m.env m.env.phase here (no-choice m.env m.env.phase from.none);
+      waits = from.waits;
+      stage = from.stage;
+      unmoved = from.unmoved;
+      quiet = from.quiet;
+      told = ap (λ (y : Entry). y.reply.out) h.entry ∙ ap (λ v. (event_step m v).entry.reply.out) is;
+    }
+
+pub abandon-of-runs : AbandonComesOnlyWhereHooksWait
+abandon-of-runs s bs xs a x run next is =
+    let m : Machine = final_of s bs xs in
+    let h : Happens m x = happens-next m a x (ap is_of_others is) (ap (λ w. is_of_frames w x.reply.out) is) next in
+    abandon-ready m x (hub-in-phase s bs xs run) h (is-abandon h.event (happens-what m x host.Abandon is h))
+
+-- BEHIND IT
+-- none waits any more, none is left to begin, and no frame stands
+record HasNoneLeft (m : Machine) : Type 0 where
+  pub unwaited : waiting_hooks m.env ≡ 0
+  pub spent : m.env.hooks ≡ []
+  pub alone : m.env.frames ≡ []
+
+abbrev LeavesNone : Machine → Type 0
+LeavesNone m = m.hub.stage ≡ HooksAbandoned → HasNoneLeft m
+
+none-waits : (others : List AsyncHook) → count_waiting (with_abandoned others) ≡ 0
+none-waits [] = refl
+none-waits (h ∷ others) = by (is_waiting h.state) refl ∙ none-waits others
+  where
+    rest : List AsyncHook
+    rest = filter (λ k. is_waiting k.state) (with_abandoned others)
+
+    by : (b : Bool) → is_waiting h.state ≡ b → count_waiting (cond b (in_state Abandoned h) h ∷ with_abandoned others) ≡ count_waiting (with_abandoned others)
+    by true is = refl
+    by false is = ap (λ b. length (cond b (h ∷ rest) rest)) is
+
+-- then the drain is chosen
+drain-chosen : (m : Machine) → InPhase m → m.hub.stage ≡ HooksAbandoned → HasNoneLeft m → choice m ≡ Some Drains
+drain-chosen m far stage left = rw (hooks-phase m.env.phase m.hub.stage far (ap is_of_hooks stage), left.spent, stage) refl
+
+-- a great event of the hub comes to that stage as `abandon` alone
+stage-abandoned : (s : Stage) (event : HostStep) → unwrap_or (stage_after s event) s ≡ HooksAbandoned → (s ≡ HooksAbandoned) ⊎ (event ≡ host.Abandon)
+stage-abandoned HooksAbandoned event is = inl refl
+stage-abandoned LoopEnded host.Abandon is = inr refl
+stage-abandoned LoopEnded host.Drain is = cc
+stage-abandoned LoopEnded _ is = cc
+stage-abandoned Before host.Go is = cc
+stage-abandoned Before _ is = cc
+stage-abandoned Live host.LoopEnd is = cc
+stage-abandoned Live _ is = cc
+stage-abandoned Drained host.Finals is = cc
+stage-abandoned Drained _ is = cc
+stage-abandoned Final _ is = cc
+
+great-before : (m : Machine) (event : HostStep) → (event ≡ host.Abandon → ⊥) → unwrap_or (stage_after m.hub.stage event) m.hub.stage ≡ HooksAbandoned
+    → m.hub.stage ≡ HooksAbandoned
+great-before m event other is = by (stage-abandoned m.hub.stage event is)
+  where
+    by : (m.hub.stage ≡ HooksAbandoned) ⊎ (event ≡ host.Abandon) → m.hub.stage ≡ HooksAbandoned
+    by (inl here) = here
+    by (inr same) = absurd (other same)
+
+ticket-stage : (m : Machine) (n : ℕ) (r : Option Registration) → (ticket_step m n r).after.hub.stage ≡ m.hub.stage
+ticket-stage m n None = refl
+ticket-stage m n (Some r) = refl
+
+-- an event comes to it from there, or is `abandon`
+event-before : (m : Machine) (v : Event) → (event_step m v).after.hub.stage ≡ HooksAbandoned → (m.hub.stage ≡ HooksAbandoned) ⊎ (v ≡ Abandons)
+event-before m Abandons far = inr refl
+event-before m (Tickets n) far = inl (sym (ticket-stage m n (registration_at m.env.book n)) ∙ far)
+event-before m (Moves move) far = inl (sym (moves-still m move).stage ∙ far)
+event-before m Goes far = inl (great-before m host.Go (λ z. cc) far)
+event-before m (EndsLoop w) far = inl (great-before m host.LoopEnd (λ z. cc) far)
+event-before m Drains far = inl (great-before m host.Drain (λ z. cc) far)
+event-before m FinalsCome far = inl (great-before m host.Finals (λ z. cc) far)
+event-before m _ far = inl far
+
+drain-leaves : (m : Machine) → m.hub.stage ≡ HooksAbandoned → (event_step m Drains).after.hub.stage ≡ Drained
+drain-leaves m far = ap (λ s. unwrap_or (stage_after s host.Drain) s) far
+
+event-leaves : (m : Machine) (v : Event) → InPhase m → LeavesNone m → m.env.frames ≡ [] → choice m ≡ Some v → LeavesNone (event_step m v).after
+event-leaves m v far left alone next there = by (event-before m v there)
+  where
+    by : (m.hub.stage ≡ HooksAbandoned) ⊎ (v ≡ Abandons) → HasNoneLeft (event_step m v).after
+    by (inl here) =
+        let same : v ≡ Drains = same_Some v Drains (sym next ∙ drain-chosen m far here (left here)) in
+        let z : Drained ≡ HooksAbandoned = sym (drain-leaves m here) ∙ ap (λ w. (event_step m w).after.hub.stage) (sym same) ∙ there in
+        cc
+    by (inr same) =
+        let from : AbandonsFrom m = chosen-abandon m (next ∙ ap Some same) in
+        let here : m.env.phase ≡ phase.Hooks = hooks-phase m.env.phase m.hub.stage far (ap is_of_hooks from.stage) in
+        let done : HasNoneLeft (event_step m Abandons).after = record {
+          unwaited = none-waits m.env.async_hooks;
+          spent = none-left m.env m.env.phase here (no-choice m.env m.env.phase from.none);
+          alone = alone;
+        } in
+        subst (λ w. HasNoneLeft (event_step m w).after) (sym same) done
+
+-- where a frame stands the stage is another
+stands-apart : (m n : Machine) (f : Frame) (fs : List Frame) → LeavesNone m → m.env.frames ≡ f ∷ fs → n.hub.stage ≡ m.hub.stage → LeavesNone n
+stands-apart m n f fs left stands same there =
+    let z : f ∷ fs ≡ [] = sym stands ∙ (left (sym same ∙ there)).alone in cc
+
+ended-stage : (m : Machine) (v : Option HandleId) (cut : Option Why) (may ours : Bool)
+    → (end_step_on ours m (end_change v cut m.env) may).after.hub.stage ≡ m.hub.stage
+ended-stage m v cut may false = refl
+ended-stage m v cut may true = end-stage m.hub (end_change v cut m.env).entry (ended-ends v cut m.env).who (ended-ends v cut m.env).is
+
+form-leaves : (m : Machine) (t : Step) → Form m t → InPhase m → LeavesNone m → LeavesNone t.after
+form-leaves m t (form.calls f fs stands c o alone) far left = stands-apart m t.after f fs left stands refl
+form-leaves m t (form.shares f fs stands c o shared answers) far left = stands-apart m t.after f fs left stands (shares-still m c o).stage
+form-leaves m t (form.ends f fs stands v cut b ours is_ours) far left = stands-apart m t.after f fs left stands (ended-stage m v cut b ours)
+form-leaves m _ (form.happens alone event next) far left = event-leaves m event far left alone next
+form-leaves m t (form.others x other same) far left =
+    λ there.
+    let none : HasNoneLeft m = left (sym (others-still m x other).stage ∙ there) in
+    record { unwaited = none.unwaited; spent = none.spent; alone = none.alone }
+
+abbrev OrderlyLeft : Machine → Type 0
+OrderlyLeft m = Orderly m × LeavesNone m
+
+run-leaves : (s : Setting) (bs : List Ask) (xs : List Entry) → IsRunBy (opening_of s) bs xs → LeavesNone (final_of s bs xs)
+run-leaves s bs xs run =
+    (along-run OrderlyLeft (λ m a x next p. (next-orderly m a x p.0 next, form-leaves m (step m a x) (form-of m a x next) p.0.stage p.1)) (opening_of s) bs xs run
+    (orderly-opens s, λ z. cc)).1
+
+pub drain-behind-abandon : DrainComesNextAfterAbandon
+drain-behind-abandon s bs xs a x run stage who next =
+    let m : Machine = final_of s bs xs in
+    let left : HasNoneLeft m = run-leaves s bs xs run stage in
+    let h : Happens m x = happens-alone m a x left.alone who next in
+    let same : h.event ≡ Drains = same_Some h.event Drains (sym h.next ∙ drain-chosen m (hub-in-phase s bs xs run) stage left) in
+    ap (λ (y : Entry). y.what) h.entry ∙ event-what m h.event h.may ∙ ap (λ v. what.Host (event_what v)) same
+
+-- DRAIN
 -- `drain` is the hub's event in the phase of the hooks
 is-drain : (v : Event) → event_what v ≡ host.Drain → v ≡ Drains
 is-drain Drains is = refl
@@ -268,7 +456,8 @@ is-drain _ is = cc
 
 record DrainsFrom (m : Machine) : Type 0 where
   pub none : local_choice m.env ≡ None
-  pub stage : m.hub.stage ≡ LoopEnded
+  pub stage : is_of_hooks m.hub.stage ≡ true
+  pub unwaited : LeavesNone m → waiting_hooks m.env ≡ 0
 
 chosen-drain : (m : Machine) → choice m ≡ Some Drains → DrainsFrom m
 chosen-drain m is = by (chosen-by m Drains is)
@@ -276,28 +465,26 @@ chosen-drain m is = by (chosen-by m Drains is)
     own : (p : Phase) → OwnChoice m.env p Drains → ⊥
     own p o = elim o [ ]
 
-    looped : (s : Stage) → HubChoice m.hub (waiting_hooks m.env) s Drains → s ≡ LoopEnded
-    looped _ drains = refl
+    looped : (s : Stage) → m.hub.stage ≡ s → local_choice m.env ≡ None → HubChoice m.hub (waiting_hooks m.env) s Drains → DrainsFrom m
+    looped _ here none (drains unwaited) = record { none = none; stage = ap is_of_hooks here; unwaited = λ left. eqb-true (waiting_hooks m.env) 0 unwaited }
+    looped _ here none drains_later = record { none = none; stage = ap is_of_hooks here; unwaited = λ left. (left here).unwaited }
 
     by : (local_choice m.env ≡ Some Drains) ⊎ ((local_choice m.env ≡ None) × (hub_choice m.hub (waiting_hooks m.env) ≡ Some Drains)) → DrainsFrom m
     by (inl mine) = absurd (own m.env.phase (own-choice m.env m.env.phase Drains mine))
-    by (inr hubs) = record { none = hubs.0; stage = looped m.hub.stage (hub-choice m.hub (waiting_hooks m.env) m.hub.stage Drains hubs.1) }
-
-looped-hooks : (p : Phase) → IsStageOf p LoopEnded → p ≡ phase.Hooks
-looped-hooks phase.Hooks h = refl
-looped-hooks _ h = cc
-
-none-left : (e : Environment) (p : Phase) → p ≡ phase.Hooks → NoChoice e p → e.hooks ≡ []
-none-left e _ here (unhooked none) = none
-none-left e _ here _ = cc
+    by (inr hubs) = looped m.hub.stage refl hubs.0 (hub-choice m.hub (waiting_hooks m.env) m.hub.stage Drains hubs.1)
 
 pub drain-of-runs : DrainComesOnlyAfterHooks
 drain-of-runs s bs xs a x run next is =
     let m : Machine = final_of s bs xs in
     let h : Happens m x = happens-next m a x (ap is_of_others is) (ap (λ w. is_of_frames w x.reply.out) is) next in
     let from : DrainsFrom m = chosen-drain m (h.next ∙ ap Some (is-drain h.event (happens-what m x host.Drain is h))) in
-    let here : m.env.phase ≡ phase.Hooks = looped-hooks m.env.phase (subst (IsStageOf m.env.phase) from.stage (hub-in-phase s bs xs run)) in
-    record { phase = here; alone = h.alone; spent = none-left m.env m.env.phase here (no-choice m.env m.env.phase from.none) }
+    let here : m.env.phase ≡ phase.Hooks = hooks-phase m.env.phase m.hub.stage (hub-in-phase s bs xs run) from.stage in
+    record {
+      phase = here;
+      alone = h.alone;
+      spent = none-left m.env m.env.phase here (no-choice m.env m.env.phase from.none);
+      unwaited = from.unwaited (run-leaves s bs xs run);
+    }
 
 -- `finals` is the hub's event in the phase of the drain
 is-finals : (v : Event) → event_what v ≡ host.Finals → v ≡ FinalsCome
@@ -323,7 +510,7 @@ chosen-finals m is = by (chosen-by m FinalsCome is)
     by (inl mine) = absurd (own m.env.phase (own-choice m.env m.env.phase FinalsCome mine))
     by (inr hubs) = last m.hub.stage refl (hub-choice m.hub (waiting_hooks m.env) m.hub.stage FinalsCome hubs.1)
 
-drained-phase : (p : Phase) → IsStageOf p Drained → p ≡ phase.Drain
+pub drained-phase : (p : Phase) → IsStageOf p Drained → p ≡ phase.Drain
 drained-phase phase.Drain h = refl
 drained-phase _ h = cc
 

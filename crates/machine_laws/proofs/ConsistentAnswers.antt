@@ -14,6 +14,7 @@ use Rattle.napi_types.specs.plain.Replies.{accepts}
 use Rattle.napi_types.specs.parts.Frames.{caller_of, most_frames}
 use Rattle.napi_types.specs.parts.Heap.{Heap, handle_value}
 use Rattle.napi_types.specs.parts.HeapChanges.{with_handle, with_thrown, thrown_number}
+use Rattle.napi_types.specs.parts.AsyncHooks.{set_ticket, with_removed}
 use Rattle.napi_types.specs.parts.Hooks.{hook_ticket}
 use Rattle.napi_types.specs.parts.References.{Reference, ReferenceMap, with_reference, without_reference, with_count}
 use Rattle.napi_types.specs.parts.Values.{undefined_value}
@@ -192,6 +193,12 @@ does-good c e _ (does.adds_hook entry argument) g = besides e e _ refl (unmoved 
 does-good c e _ (does.removes_hook entry argument) g =
     let t : Option ℕ = hook_ticket (caller_of e.frames) entry argument e.hooks in
     registered-by e.book t (λ s. LeadsToGood e (withdrawing s (accepts out.Nothing (record e { hooks = unhooked t e.hooks }))).after)
+    (besides e e _ refl (unmoved e g)) (λ n here is. besides e e _ refl (unmoved e g))
+does-good c e _ (does.adds_async entry argument number is) g = besides e e _ refl (unmoved e g)
+does-good c e _ (does.removes_async number) g =
+    let t : Option ℕ = set_ticket number e.async_hooks in
+    let left : Environment = record e { hooks = unhooked t e.hooks; async_hooks = with_removed number e.async_hooks } in
+    registered-by e.book t (λ s. LeadsToGood e (withdrawing s (accepts out.Nothing left)).after)
     (besides e e _ refl (unmoved e g)) (λ n here is. besides e e _ refl (unmoved e g))
 does-good c e _ (does.withdraws t on is) g = besides e e _ refl (unmoved e g)
 does-good c e _ (does.asks_exit is) g = besides e e _ refl (unmoved e g)

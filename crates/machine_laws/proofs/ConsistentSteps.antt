@@ -23,19 +23,20 @@ use Rattle.napi_types.specs.parts.Book.{Book, Registration, due_info, moved_at, 
 use Rattle.napi_types.specs.parts.Frames.{Frame, duty_of, frame_of, frame_of_duty, most_frames, ask_counted}
 use Rattle.napi_types.specs.parts.FunctionCalls.{left_value, with_receiver}
 use Rattle.napi_types.specs.parts.Heap.{Heap, handle_value}
+use Rattle.napi_types.specs.parts.AsyncHooks.{AsyncHook}
 use Rattle.napi_types.specs.parts.HeapChanges.{with_handle, with_frame, without_frame}
 use Rattle.napi_types.specs.parts.Hooks.{Hook}
 use Rattle.napi_types.specs.parts.Values.{undefined_value}
-use Rattle.napi_types.specs.environment.Changes.{opening_change, gone_change, in_phase, issued_number, with_noted_status}
+use Rattle.napi_types.specs.environment.Changes.{opening_change, gone_change, in_phase, issued_number, with_noted_status, with_none_waiting}
 use Rattle.napi_types.specs.environment.Ends.{uncut_call_end, end_change, outermost_end_change}
 use Rattle.napi_types.specs.environment.Entering.{enter_change, asked_change}
 use Rattle.napi_types.specs.environment.Environment.{Environment, TsfnRoot}
 use Rattle.napi_types.specs.environment.Refusals.{refusal, refusal_before_depth, depth_refusal}
 use Rattle.napi_types.specs.environment.Registry.{Registry, registry_of, with_registry}
 use Rattle.napi_types.specs.environment.SharedCalls.{with_root, without_root, after_shared}
-use Rattle.napi_types.specs.environment.Tickets.{hooks_left}
+use Rattle.napi_types.specs.environment.Tickets.{hooks_left, hooks_waiting}
 use Rattle.napi_types.specs.hub.HubMoves.{HubMove, Delivers, Closes, Finishes}
-use Rattle.napi_types.specs.runs.Loop.{Event, Opens, Inits, Tickets, Moves, Goes, EndsLoop, Drains, FinalsCome, IsGone}
+use Rattle.napi_types.specs.runs.Loop.{Event, Opens, Inits, Tickets, Moves, Goes, EndsLoop, Abandons, Drains, FinalsCome, IsGone}
 use Rattle.napi_types.specs.runs.Machine.{Machine}
 use Rattle.napi_types.specs.runs.Run.{after, final, IsNext, IsRunBy}
 use Rattle.napi_types.specs.runs.Step.{Step, ticket_step, move_step, event_step, call_step_on, end_step_on, step}
@@ -155,13 +156,13 @@ other-follows : (e new : Environment) → IsConsistentButFrames new → length n
 other-follows e new g scopes frames stay c = record { good = whole-of new g (scopes ∙ c.frames ∙ sym frames) (omega (arith, frames, c.depth)); stay = stay }
 
 -- an outermost frame begins, and addons that had theirs, the book and the hooks may change
-begun-follows : (e : Environment) (inits : ℕ) (book : Book) (hooks : List Hook) (f : Frame) → e.frames ≡ [] → IsConsistent e
-    → LeadsToConsistent e (record e { inits = inits; book = book; hooks = hooks; heap = with_frame e.heap; frames = f ∷ e.frames })
-begun-follows e inits book hooks f none c =
+begun-follows : (e : Environment) (inits : ℕ) (book : Book) (hooks : List Hook) (others : List AsyncHook) (f : Frame) → e.frames ≡ [] → IsConsistent e
+    → LeadsToConsistent e (record e { inits = inits; book = book; hooks = hooks; async_hooks = others; heap = with_frame e.heap; frames = f ∷ e.frames })
+begun-follows e inits book hooks others f none c =
     let g : IsConsistentButFrames e = parts-of e c in
     let frame : ComesTo e.heap (with_frame e.heap) = with-frame e.heap g.heap in
     let led : IsConsistentButFrames (record e { heap = with_frame e.heap }) = (in-heap e (with_frame e.heap) g frame).good in
-    let new : Environment = record e { inits = inits; book = book; hooks = hooks; heap = with_frame e.heap; frames = f ∷ e.frames } in
+    let new : Environment = record e { inits = inits; book = book; hooks = hooks; async_hooks = others; heap = with_frame e.heap; frames = f ∷ e.frames } in
     let good : IsConsistentButFrames new = record { heap = led.heap; referred = led.referred; references = led.references; pending = led.pending; rooted = led.rooted } in
     record { good = whole-of new good (ap suc c.frames) (omega (arith, ap length none)); stay = frame.stay }
 
@@ -212,11 +213,11 @@ ticket-follows : (m : Machine) (n : ℕ) (r : Option Registration) → m.env.fra
 ticket-follows m n None none c = same-follows m.env c
 ticket-follows m n (Some r) none c =
     let book : Book = moved_at (begun_in m.env.phase) n m.env.book in
-    begun-follows m.env m.env.inits book (hooks_left m.env.phase n m.env.hooks) (frame_of_duty (due_info n r)) none c
+    begun-follows m.env m.env.inits book (hooks_left m.env.phase n m.env.hooks) (hooks_waiting m.env.phase n m.env.async_hooks) (frame_of_duty (due_info n r)) none c
 
 -- a duty of the hub begins a frame, and a function that finishes keeps its value no longer
 move-follows : (m : Machine) (move : HubMove) → m.env.frames ≡ [] → IsConsistent m.env → StepFollows m (move_step m move)
-move-follows m (Delivers d) none c = begun-follows m.env m.env.inits m.env.book m.env.hooks (frame_of_duty d) none c
+move-follows m (Delivers d) none c = begun-follows m.env m.env.inits m.env.book m.env.hooks m.env.async_hooks (frame_of_duty d) none c
 move-follows m (Closes n) none c = same-follows m.env c
 move-follows m (Finishes n) none c =
     let left : List TsfnRoot = (without_root n m.env).tsfn_roots in
@@ -228,11 +229,15 @@ event-follows m Opens none c =
     let g : IsConsistentButFrames m.env = parts-of m.env c in
     let good : IsConsistentButFrames (opening_change m.env).after = record { heap = g.heap; referred = g.referred; references = g.references; pending = g.pending; rooted = g.rooted } in
     other-follows m.env (opening_change m.env).after good refl refl (stays m.env.heap) c
-event-follows m (Inits n) none c = begun-follows m.env (m.env.inits + 1) m.env.book m.env.hooks (frame_of cause.Init n 0) none c
+event-follows m (Inits n) none c = begun-follows m.env (m.env.inits + 1) m.env.book m.env.hooks m.env.async_hooks (frame_of cause.Init n 0) none c
 event-follows m (Tickets n) none c = ticket-follows m n (registration_at m.env.book n) none c
 event-follows m (Moves move) none c = move-follows m move none c
 event-follows m Goes none c = phase-follows m.env phase.Live c
 event-follows m (EndsLoop w) none c = phase-follows m.env phase.Hooks c
+event-follows m Abandons none c =
+    let g : IsConsistentButFrames m.env = parts-of m.env c in
+    let good : IsConsistentButFrames (with_none_waiting m.env) = record { heap = g.heap; referred = g.referred; references = g.references; pending = g.pending; rooted = g.rooted } in
+    other-follows m.env (with_none_waiting m.env) good refl refl (stays m.env.heap) c
 event-follows m Drains none c = phase-follows m.env phase.Drain c
 event-follows m FinalsCome none c = phase-follows m.env phase.Finals c
 event-follows m IsGone none c =

@@ -211,11 +211,11 @@ both-full true history journal c one two = one
 both-full false history journal c one two = two
 
 -- and it may want memory in a list of few places
-pub taken-wants : (c : Call) → may_want_memory (record { limit = 4; occupied = 4 }) c ≡ true
-taken-wants c = or_right (is_growing c) (nat_lt 4 (4 + need c)) (lt-ltb 4 (4 + need c) (omega (arith, needs-place c)))
+pub taken-wants : (c : Call) → may_want_memory (record { limit = 5; occupied = 5 }) c ≡ true
+taken-wants c = or_right (is_growing c) (nat_lt 5 (5 + need c)) (lt-ltb 5 (5 + need c) (omega (arith, needs-place c)))
 
 pub full-there : (c : Call) → is_full (room_of first_called c) c ≡ true
-full-there c = both-full (is_shared c) (history_room first_called.hub 0 4) (journal_room first_called.env 3 5) c (taken-full 4 c) (taken-full 5 c)
+full-there c = both-full (is_shared c) (history_room first_called.hub 0 5) (journal_room first_called.env 3 5) c (taken-full 5 c) (taken-full 5 c)
 
 -- where two places are left in the journal a call that registers is
 needs-three : (c : Call) → is_shared c ≡ false → is_registering c ≡ true → need c ≡ 3
@@ -227,6 +227,7 @@ needs-three (call.AddFinalizer h payload entry hint wanted) alone registers = re
 needs-three (call.SetInstanceData payload None hint) alone registers = cc
 needs-three (call.SetInstanceData payload (Some entry) hint) alone registers = refl
 needs-three (call.AddEnvCleanupHook entry argument) alone registers = refl
+needs-three (call.AddAsyncCleanupHook entry argument) alone registers = refl
 needs-three (call.CreateAsyncWork job completion payload) alone registers = cc
 needs-three (call.QueueAsyncWork w) alone registers = cc
 needs-three (call.CreateThreadsafeFunction f entry most initial finalizer context) alone registers = cc
@@ -236,8 +237,8 @@ needs-three c alone registers = cc
 pub two-full : (c : Call) → is_registering c ≡ true → is_full (room_of two_left c) c ≡ true
 two-full c registers = by (is_shared c) refl
   where
-    by : (b : Bool) → is_shared c ≡ b → is_full (cond b (history_room two_left.hub 0 4) (journal_room two_left.env 2 6)) c ≡ true
-    by true shared = taken-full 4 c
+    by : (b : Bool) → is_shared c ≡ b → is_full (cond b (history_room two_left.hub 0 5) (journal_room two_left.env 2 6)) c ≡ true
+    by true shared = taken-full 5 c
     by false alone = ap (λ n. nat_lt 6 (4 + n)) (needs-three c alone registers)
 
 -- where a call is full its frame is cut

@@ -25,7 +25,7 @@ use Rattle.napi_types.specs.environment.Ends.{end_change}
 use Rattle.napi_types.specs.environment.Entering.{asked_change}
 use Rattle.napi_types.specs.environment.Environment.{Environment}
 use Rattle.napi_types.specs.environment.SharedCalls.{shared_entry}
-use Rattle.napi_types.specs.hub.Hub.{IsStageOf, Stage, Live, Drained}
+use Rattle.napi_types.specs.hub.Hub.{IsStageOf, Stage, Live, is_of_hooks}
 use Rattle.napi_types.specs.hub.HubMoves.{HubMove, Delivers, Closes, Finishes, hub_move, is_idle, is_quiet}
 use Rattle.napi_types.specs.hub.HubEvents.{delivery_entry}
 use Rattle.napi_types.specs.hub.HubSteps.{hub_step}
@@ -42,14 +42,14 @@ use Rattle.napi_types.proofs.environment.Cases.{asked-by, ended-by}
 use Rattle.napi_types.proofs.hub.HubKeeps.{hub_step-what}
 use Rattle.napi_types.proofs.runs.Forms.{event_what}
 use Rattle.napi_types.proofs.runs.SharedSteps.{is_of_others, others-told, after_shared-alone}
-use Rattle.napi_types.proofs.runs.StepCases.{StepCase, calls, ends, shares, leaves, passes, moves, others, event_before, InPhase, stage-in}
+use Rattle.napi_types.proofs.runs.StepCases.{StepCase, calls, ends, shares, leaves, passes, moves, others, event_before, InPhase}
 use Rattle.napi_types.proofs.runs.Chosen.{OwnChoice, exits, NoChoice, waits, no-choice, HubChoice, idles, quiets, chosen-in-phase}
 use Rattle.napi_types.proofs.all_runs.Orderly.{Orderly, orderly-opens, along-orderly}
-use Rattle.machine_laws.specs.Choices.{begins_due_tickets_in, is_of_frames, BeginsLowest, BeginsLastHook, BeginsOfHub}
-use Rattle.machine_laws.specs.ExitLaws.{asks_exit, has_exit, reason_of, ExitIsAskedByItsCall, EndsByReason, TheLoopEndsByItsReason, TheLoopEndsByExitOrIdle, WhatIsDueWaitsForFinalsOnceExitWasAsked}
+use Rattle.machine_laws.specs.Choices.{begins_due_tickets_in, is_of_frames, BeginsLowest, BeginsLastHook, DeliversNow, BeginsOfHub}
+use Rattle.machine_laws.specs.ExitLaws.{asks_exit, has_exit, reason_of, ExitIsAskedByItsCall, EndsByReason, TheLoopEndsByItsReason, TheLoopEndsByExitOrIdle, DeliversBehindLoop, WhatIsDueWaitsForFinalsOnceExitWasAsked}
 use Rattle.machine_laws.proofs.Bare.{IsBare, bare-run, bare-idle}
 use Rattle.machine_laws.proofs.BeginningFrames.{tickets-begin}
-use Rattle.machine_laws.proofs.Choosing.{Happens, happens-next, happens-what, hub-in-phase}
+use Rattle.machine_laws.proofs.Choosing.{Happens, happens-next, happens-what, hub-in-phase, hooks-phase, none-left, drained-phase}
 
 -- WHAT ASKS IT
 -- no part of an answer changes whether exit was asked, ..
@@ -61,6 +61,7 @@ asked-ignored = record {
   attachments = λ d x. refl;
   book = λ d x. refl;
   hooks = λ d x. refl;
+  async_hooks = λ d x. refl;
   instances = λ d x. refl;
   pending = λ d x. refl;
   last = λ d x. refl;
@@ -223,26 +224,22 @@ late e phase.Live asked moment = let z : false ≡ true = ap not (sym asked) ∙
 late e phase.Finals asked moment = refl
 late e _ asked moment = cc
 
--- the stages in which the hub delivers
-abbrev delivers : Stage → Bool
-delivers Live = true
-delivers Drained = true
-delivers _ = false
+live-phase : (p : Phase) → IsStageOf p Live → p ≡ phase.Live
+live-phase phase.Live far = refl
+live-phase _ far = cc
 
 -- it delivers nothing in the loop once exit was asked
-drain-delivers : (m : Machine) (p : Phase) → InPhase m → m.env.phase ≡ p → m.env.exit_asked ≡ true → NoChoice m.env p
-    → (m.hub.stage ≡ Live) ⊎ (m.hub.stage ≡ Drained)
-    → p ≡ phase.Drain
-drain-delivers m p far here asked none moment = by p m.hub.stage (stage-in m p far here) none (now moment)
-  where
-    now : (m.hub.stage ≡ Live) ⊎ (m.hub.stage ≡ Drained) → delivers m.hub.stage ≡ true
-    now (inl is) = ap delivers is
-    now (inr is) = ap delivers is
+not-in-loop : (e : Environment) (p : Phase) → p ≡ phase.Live → e.exit_asked ≡ true → NoChoice e p → ⊥
+not-in-loop e _ here asked (waits unasked lowest) = let z : true ≡ false = sym asked ∙ unasked in cc
+not-in-loop e _ here asked _ = cc
 
-    by : (p : Phase) (s : Stage) → IsStageOf p s → NoChoice m.env p → delivers s ≡ true → p ≡ phase.Drain
-    by phase.Drain s shown _ delivered = refl
-    by phase.Live s shown (waits unasked lowest) delivered = let z : true ≡ false = sym asked ∙ unasked in cc
-    by _ s shown _ delivered = let z : true ≡ false = sym delivered ∙ ap delivers shown in cc
+delivers-behind : (m : Machine) → InPhase m → m.env.exit_asked ≡ true → NoChoice m.env m.env.phase → DeliversNow m → DeliversBehindLoop m
+delivers-behind m far asked quiet (inl live) =
+    absurd (not-in-loop m.env m.env.phase (live-phase m.env.phase (subst (IsStageOf m.env.phase) live far)) asked quiet)
+delivers-behind m far asked quiet (inr (inl drained)) = inl (drained-phase m.env.phase (subst (IsStageOf m.env.phase) drained far))
+delivers-behind m far asked quiet (inr (inr waiting)) =
+    let here : m.env.phase ≡ phase.Hooks = hooks-phase m.env.phase m.hub.stage far (ap is_of_hooks waiting.0) in
+    inr (here, none-left m.env m.env.phase here quiet, waiting.1)
 
 pub due-waits : WhatIsDueWaitsForFinalsOnceExitWasAsked
 due-waits s bs xs a x c addon entry d run asked next is told = by (tickets-begin m a x c addon entry d next is told)
@@ -253,8 +250,8 @@ due-waits s bs xs a x c addon entry d run asked next is told = by (tickets-begin
     known : m.env.exit_asked ≡ true
     known = exit-by-call s bs xs run ∙ asked
 
-    by : BeginsLowest m d ⊎ BeginsLastHook m d ⊎ BeginsOfHub m d x → (m.env.phase ≡ phase.Finals) ⊎ BeginsLastHook m d ⊎ (m.env.phase ≡ phase.Drain) × BeginsOfHub m d x
+    by : BeginsLowest m d ⊎ BeginsLastHook m d ⊎ BeginsOfHub m d x → (m.env.phase ≡ phase.Finals) ⊎ BeginsLastHook m d ⊎ DeliversBehindLoop m × BeginsOfHub m d x
     by (inl due) = inl (late m.env m.env.phase known due.moment)
     by (inr (inl hook)) = inr (inl hook)
     by (inr (inr hub)) =
-        inr (inr (drain-delivers m m.env.phase (hub-in-phase s bs xs run) refl known (no-choice m.env m.env.phase hub.waits) hub.moment, hub))
+        inr (inr (delivers-behind m (hub-in-phase s bs xs run) known (no-choice m.env m.env.phase hub.waits) hub.moment, hub))

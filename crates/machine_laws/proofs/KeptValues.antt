@@ -29,7 +29,7 @@ use Rattle.napi_types.specs.hub.HubMoves.{HubMove, Delivers, Closes, Finishes, h
 use Rattle.napi_types.specs.hub.HubEvents.{finish_step}
 use Rattle.napi_types.specs.hub.HubSteps.{hub_step}
 use Rattle.napi_types.specs.runs.Choice.{choice}
-use Rattle.napi_types.specs.runs.Loop.{Event, Opens, Inits, Tickets, Moves, Goes, EndsLoop, Drains, FinalsCome, IsGone}
+use Rattle.napi_types.specs.runs.Loop.{Event, Opens, Inits, Tickets, Moves, Goes, EndsLoop, Abandons, Drains, FinalsCome, IsGone}
 use Rattle.napi_types.specs.runs.Machine.{Machine}
 use Rattle.napi_types.specs.runs.Run.{after, final}
 use Rattle.napi_types.specs.runs.Step.{Step, ticket_step, move_step, event_step, shared_call_step, end_step_on, step}
@@ -55,6 +55,7 @@ roots-ignored = record {
   attachments = λ d x. refl;
   book = λ d x. refl;
   hooks = λ d x. refl;
+  async_hooks = λ d x. refl;
   instances = λ d x. refl;
   pending = λ d x. refl;
   last = λ d x. refl;
@@ -157,6 +158,7 @@ module _ (n : ℕ) (m : Machine) where
   event-keeps (Inits k) next none = keeps-same n m.env (event_step m (Inits k)).after.env refl
   event-keeps Goes next none = keeps-same n m.env (event_step m Goes).after.env refl
   event-keeps (EndsLoop w) next none = keeps-same n m.env (event_step m (EndsLoop w)).after.env refl
+  event-keeps Abandons next none = keeps-same n m.env (event_step m Abandons).after.env refl
   event-keeps Drains next none = keeps-same n m.env (event_step m Drains).after.env refl
   event-keeps FinalsCome next none = keeps-same n m.env (event_step m FinalsCome).after.env refl
   event-keeps IsGone next none = keeps-same n m.env (event_step m IsGone).after.env refl

@@ -17,6 +17,7 @@ mod Cutting
 mod Exiting
 mod Prefixes
 mod Holding
+mod HookNumbers
 mod KeptScripts
 mod KeptValues
 mod LiveNumbers

@@ -8,7 +8,6 @@ use Rattle.napi_types.specs.declared.call.Call.{Call}
 use Rattle.napi_types.specs.declared.call.Call.TheVariants as call
 use Rattle.napi_types.specs.declared.status.Status.{Status}
 use Rattle.napi_types.specs.plain.Lists.{has_number}
-use Rattle.napi_types.specs.parts.Frames.{caller_of}
 use Rattle.napi_types.specs.parts.HeapRefusals.{refusal_in}
 use Rattle.napi_types.specs.parts.ReferenceRefusals.{reference_refusal}
 use Rattle.napi_types.specs.environment.Environment.{Environment}
@@ -28,7 +27,7 @@ named-alone e (call.GetReferenceValue r) = record {
 named-alone e c = record { alone = inl refl; order = sym (option_or-none (refusal_in e.texts e.heap c)) }
 
 -- a call that nothing but the references can refuse
-on-references : (e : Environment) (c : Call) → hook_refusal (caller_of e.frames) e.hooks c ≡ None → attached_refusal e c ≡ None
+on-references : (e : Environment) (c : Call) → hook_refusal e c ≡ None → attached_refusal e c ≡ None
     → refusal_by_state e c ≡ reference_refusal e.references c → NamesHooksAlone e c
 on-references e c unhooked unattached alone =
     let r : Option Status = reference_refusal e.references c in
@@ -36,18 +35,24 @@ on-references e c unhooked unattached alone =
     record {
       alone = inl unhooked;
       first = alone ∙ sym (ap (λ o. option_or o (option_or r (attached_refusal e c))) unhooked ∙ within);
-      order = alone ∙ sym (ap (λ o. option_or o (hook_refusal (caller_of e.frames) e.hooks c)) within ∙ ap (option_or r) unhooked ∙ option_or-none r);
+      order = alone ∙ sym (ap (λ o. option_or o (hook_refusal e c)) within ∙ ap (option_or r) unhooked ∙ option_or-none r);
     }
 
 pub hooks-alone : HooksAreNamedAlone
 hooks-alone e (call.AddEnvCleanupHook entry argument) = record {
   alone = inr (refl, refl, refl);
-  first = sym (option_or-none (hook_refusal (caller_of e.frames) e.hooks (call.AddEnvCleanupHook entry argument)));
+  first = sym (option_or-none (hook_refusal e (call.AddEnvCleanupHook entry argument)));
   order = refl;
 }
 hooks-alone e (call.RemoveEnvCleanupHook entry argument) = record {
   alone = inr (refl, refl, refl);
-  first = sym (option_or-none (hook_refusal (caller_of e.frames) e.hooks (call.RemoveEnvCleanupHook entry argument)));
+  first = sym (option_or-none (hook_refusal e (call.RemoveEnvCleanupHook entry argument)));
+  order = refl;
+}
+hooks-alone e (call.AddAsyncCleanupHook entry argument) = record { alone = inl refl; first = refl; order = refl }
+hooks-alone e (call.RemoveAsyncCleanupHook hook) = record {
+  alone = inr (refl, refl, refl);
+  first = sym (option_or-none (hook_refusal e (call.RemoveAsyncCleanupHook hook)));
   order = refl;
 }
 hooks-alone e (call.DeleteReference r) = on-references e (call.DeleteReference r) refl refl refl

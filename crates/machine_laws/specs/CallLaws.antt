@@ -9,6 +9,7 @@ use Rattle.napi_types.specs.declared.call.CallGroup.TheVariants.{OnValues, OnPro
 use Rattle.napi_types.specs.declared.call.JobSpec.{JobSpec}
 use Rattle.napi_types.specs.declared.call.Mode.{Mode}
 use Rattle.napi_types.specs.declared.entry.Out.TheVariants as out
+use Rattle.napi_types.specs.declared.ids.AsyncHookId.{AsyncHookId}
 use Rattle.napi_types.specs.declared.ids.HandleId.{HandleId}
 use Rattle.napi_types.specs.declared.ids.ScopeId.{ScopeId}
 use Rattle.napi_types.specs.declared.ids.TsfnId.{TsfnId}
@@ -21,9 +22,10 @@ use Rattle.napi_types.specs.plain.Lists.{has_number}
 use Rattle.napi_types.specs.plain.Replies.{Answer, plain}
 use Rattle.napi_types.specs.plain.Room.{one_if, need}
 use Rattle.napi_types.specs.plain.Texts.{fixed_texts, message_text, code_text}
-use Rattle.napi_types.specs.parts.Frames.{caller_of, ask_counted}
+use Rattle.napi_types.specs.parts.Frames.{ask_counted}
 use Rattle.napi_types.specs.parts.Heap.{Heap, handle_body}
 use Rattle.napi_types.specs.parts.HeapRefusals.{kind_refusal, row_refusal, refusal_in}
+use Rattle.napi_types.specs.parts.Hooks.{hook_ticket}
 use Rattle.napi_types.specs.parts.NamedNumbers.{handles_of, texts_of, unknown_refusal}
 use Rattle.napi_types.specs.parts.ReferenceRefusals.{references_of, reference_refusal}
 use Rattle.napi_types.specs.parts.Scopes.{gives}
@@ -180,14 +182,26 @@ attached_refusal e c = option_or (refusal_in e.texts e.heap c) (option_or (refer
 
 -- a call on hooks names no reference, no handle and no text, so it shows nowhere either whether the hooks are asked before all that or after it
 pub record NamesHooksAlone (e : Environment) (c : Call) : Type 0 where
-  pub alone : (hook_refusal (caller_of e.frames) e.hooks c ≡ None) ⊎ ((references_of c ≡ []) × (handles_of c ≡ []) × (texts_of c ≡ []))
-  pub first : refusal_by_state e c ≡ option_or (hook_refusal (caller_of e.frames) e.hooks c)
-      (option_or (reference_refusal e.references c) (attached_refusal e c))
-  pub order : refusal_by_state e c ≡ option_or (option_or (reference_refusal e.references c) (attached_refusal e c))
-      (hook_refusal (caller_of e.frames) e.hooks c)
+  pub alone : (hook_refusal e c ≡ None) ⊎ ((references_of c ≡ []) × (handles_of c ≡ []) × (texts_of c ≡ []))
+  pub first : refusal_by_state e c ≡ option_or (hook_refusal e c) (option_or (reference_refusal e.references c) (attached_refusal e c))
+  pub order : refusal_by_state e c ≡ option_or (option_or (reference_refusal e.references c) (attached_refusal e c)) (hook_refusal e c)
 
 abbrev pub HooksAreNamedAlone : Type 0
 HooksAreNamedAlone = (e : Environment) (c : Call) → NamesHooksAlone e c
+
+-- an asynchronous hook is known by its number alone
+pub record IsKnownByNumber (e : Environment) (n : ℕ) : Type 0 where
+  -- the call that adds one is refused for no hook: none is doubled
+  pub added : (entry argument : ℕ) → hook_refusal e (call.AddAsyncCleanupHook entry argument) ≡ None
+  -- it leaves which plain hook is known by an addon, an entry and an argument, so that no call on plain hooks finds it
+  pub plain : (entry argument : ℕ) → refusal e (call.AddAsyncCleanupHook entry argument) ≡ None → (addon other about : ℕ)
+      → hook_ticket addon other about (answer e (call.AddAsyncCleanupHook entry argument) n).after.hooks ≡ hook_ticket addon other about e.hooks
+  -- one that was removed is unknown: removing it again is refused
+  pub once : (hook : AsyncHookId) → refusal e (call.RemoveAsyncCleanupHook hook) ≡ None
+      → hook_refusal (answer e (call.RemoveAsyncCleanupHook hook) n).after (call.RemoveAsyncCleanupHook hook) ≡ Some status.InvalidArg
+
+abbrev pub AsyncHooksAreKnownByNumber : Type 0
+AsyncHooksAreKnownByNumber = (e : Environment) (n : ℕ) → IsKnownByNumber e n
 
 -- `exit` is never refused and tells nothing; it leaves all as it was, but that exit was asked, that its frame made an ask more, and that the last status is 0
 pub record AsksToExitAlone (e : Environment) (n : ℕ) : Type 0 where

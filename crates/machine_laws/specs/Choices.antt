@@ -20,10 +20,10 @@ use Rattle.napi_types.specs.parts.Book.{Book, Registration, is_registered, is_du
 use Rattle.napi_types.specs.parts.Frames.{Frame, frame_of_duty, begin_told, is_hub_duty}
 use Rattle.napi_types.specs.parts.Hooks.{Hook, last_hook}
 use Rattle.napi_types.specs.environment.Environment.{Environment}
-use Rattle.napi_types.specs.hub.Hub.{IsStageOf, Hub, Live, Drained, Final, stage_after}
+use Rattle.napi_types.specs.hub.Hub.{IsStageOf, Hub, Live, LoopEnded, HooksAbandoned, Drained, Final, stage_after}
 use Rattle.napi_types.specs.hub.HubCalls.{is_thread_call}
 use Rattle.napi_types.specs.hub.HubEvents.{delivery_entry}
-use Rattle.napi_types.specs.hub.HubMoves.{Delivers, hub_move, is_spent}
+use Rattle.napi_types.specs.hub.HubMoves.{Delivers, hub_move, is_quiet, is_spent}
 use Rattle.napi_types.specs.hub.ThreadSteps.{is_thread_there}
 use Rattle.napi_types.specs.hub.WorkerSteps.{is_worker_there}
 use Rattle.napi_types.specs.runs.Choice.{local_choice, hub_choice, waiting_hooks}
@@ -163,7 +163,8 @@ pub record IsOfHook (m : Machine) (h : Hook) (x : Entry) : Type 0 where
   pub registered : is_registered registration.state ≡ true
   pub entry : x ≡ host_entry host.Begin (begin_told (frame_of_duty (due_info h.ticket registration)))
 
--- after the loop the hook that was added last comes first of the environment's: before `drain`, and before what is due
+-- after the loop the hook that was added last comes first of the environment's: before what the hub delivers, before `abandon` and `drain`, and before what is
+-- due
 abbrev pub LastHookComesFirst : Type 0
 LastHookComesFirst = (m : Machine) (h : Hook) (a : Ask) (x : Entry) → m.env.frames ≡ [] → m.env.phase ≡ phase.Hooks → last_hook m.env.hooks ≡ Some h
     → x.actor ≡ actor.Env → IsNext m a x → IsOfHook m h x
@@ -185,15 +186,19 @@ pub record BeginsLastHook (m : Machine) (d : Duty) : Type 0 where
   pub moment : m.env.phase ≡ phase.Hooks
   pub last : last_hook m.env.hooks ≡ Some hook
 
--- it is the hub's, and no ticket: what the hub delivers next where the environment decides nothing alone, between `go` and the end of the loop, or between
--- `drain` and `finals`
+-- the hub delivers between `go` and the end of the loop, between `drain` and `finals`, and between the end of the loop and `abandon` or `drain` while an
+-- asynchronous hook waits
+abbrev pub DeliversNow : Machine → Type 0
+DeliversNow m = (m.hub.stage ≡ Live) ⊎ (m.hub.stage ≡ Drained) ⊎ (m.hub.stage ≡ LoopEnded) × (0 < waiting_hooks m.env)
+
+-- it is the hub's, and no ticket: what the hub delivers next where the environment decides nothing alone, at a moment at which it delivers
 pub record BeginsOfHub (m : Machine) (d : Duty) (x : Entry) : Type 0 where
   pub info : DueInfo
   pub duty : d ≡ info.duty
   pub ours : is_hub_duty (Some d) ≡ true
   pub alone : m.env.frames ≡ []
   pub waits : local_choice m.env ≡ None
-  pub moment : (m.hub.stage ≡ Live) ⊎ (m.hub.stage ≡ Drained)
+  pub moment : DeliversNow m
   pub next : hub_move m.hub ≡ Some (Delivers info)
   pub entry : x ≡ delivery_entry info
 
@@ -219,11 +224,33 @@ abbrev pub GoComesOnlyAfterInitFrames : Type 0
 GoComesOnlyAfterInitFrames = (s : Setting) (bs : List Ask) (xs : List Entry) (a : Ask) (x : Entry) → IsRunBy (opening_of s) bs xs
     → IsNext (final_of s bs xs) a x → x.what ≡ what.Host host.Go → IsReadyToGo (final_of s bs xs)
 
--- .. `drain` comes in the phase of the hooks and in no other, once each hook has begun or was removed, ..
+-- .. `abandon` comes in the phase of the hooks and in no other, once each hook has begun or was removed, while an asynchronous one waits. Nothing moves there,
+-- and nobody is left who could give the hub something to do. It tells how many wait, and did not come before, ..
+pub record IsReadyToAbandon (m : Machine) (x : Entry) : Type 0 where
+  pub phase : m.env.phase ≡ phase.Hooks
+  pub alone : m.env.frames ≡ []
+  pub spent : m.env.hooks ≡ []
+  pub waits : 0 < waiting_hooks m.env
+  pub stage : m.hub.stage ≡ LoopEnded
+  pub unmoved : hub_move m.hub ≡ None
+  pub quiet : is_quiet m.hub ≡ true
+  pub told : x.reply.out ≡ out.Unsigned (waiting_hooks m.env)
+
+abbrev pub AbandonComesOnlyWhereHooksWait : Type 0
+AbandonComesOnlyWhereHooksWait = (s : Setting) (bs : List Ask) (xs : List Entry) (a : Ask) (x : Entry) → IsRunBy (opening_of s) bs xs
+    → IsNext (final_of s bs xs) a x → x.what ≡ what.Host host.Abandon → IsReadyToAbandon (final_of s bs xs) x
+
+-- .. behind it nothing comes of the environment before `drain`, ..
+abbrev pub DrainComesNextAfterAbandon : Type 0
+DrainComesNextAfterAbandon = (s : Setting) (bs : List Ask) (xs : List Entry) (a : Ask) (x : Entry) → IsRunBy (opening_of s) bs xs
+    → (final_of s bs xs).hub.stage ≡ HooksAbandoned → x.actor ≡ actor.Env → IsNext (final_of s bs xs) a x → x.what ≡ what.Host host.Drain
+
+-- .. `drain` comes in the phase of the hooks and in no other, once each hook has begun or was removed, and no asynchronous one waits, ..
 pub record IsReadyToDrain (m : Machine) : Type 0 where
   pub phase : m.env.phase ≡ phase.Hooks
   pub alone : m.env.frames ≡ []
   pub spent : m.env.hooks ≡ []
+  pub unwaited : waiting_hooks m.env ≡ 0
 
 abbrev pub DrainComesOnlyAfterHooks : Type 0
 DrainComesOnlyAfterHooks = (s : Setting) (bs : List Ask) (xs : List Entry) (a : Ask) (x : Entry) → IsRunBy (opening_of s) bs xs

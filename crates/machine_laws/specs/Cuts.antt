@@ -59,9 +59,10 @@ HubDutiesStandInTheHub = (s : Setting) (bs : List Ask) (xs : List Entry) → IsR
     → hub_duties (final_of s bs xs).env.frames ≡ standing_duties (final_of s bs xs).hub
 
 -- A TIGHT JOURNAL
--- a script of one addon that tells no plan, with room for so many entries in the journal: four are needed without any call, and so many has the history
+-- a script of one addon that tells no plan, with room for so many entries in the journal, of which four are needed without any call. The history has
+-- room for the five that it needs, and for no other
 abbrev pub script_within : ℕ → Setting
-script_within room = record { version = 9; plans = None ∷ []; texts = 3; threads = 0; workers = 0; limits = record { journal = room; history = 4 } }
+script_within room = record { version = 9; plans = None ∷ []; texts = 3; threads = 0; workers = 0; limits = record { journal = room; history = 5 } }
 
 -- one place is left for calls
 abbrev pub tight : Setting

@@ -1,5 +1,5 @@
 -- Laws of `exit` over all runs.
-use Rattle.std.specs.Prelude.{◌≡◌, ℕ, Bool, true, false, cond, List, Some, None, ◌⊎◌}
+use Rattle.std.specs.Prelude.{◌≡◌, ◌<◌, ℕ, Bool, true, false, cond, List, [], Some, None, ◌⊎◌}
 use Rattle.std.specs.List.{list_any}
 use Rattle.napi_types.specs.declared.call.Ask.{Ask}
 use Rattle.napi_types.specs.declared.entry.Cause.{Cause}
@@ -16,6 +16,7 @@ use Rattle.napi_types.specs.plain.CallKinds.{is_exiting}
 use Rattle.napi_types.specs.plain.Guards.{is_shared}
 use Rattle.napi_types.specs.parts.Book.{lowest_due}
 use Rattle.napi_types.specs.hub.HubMoves.{hub_move, is_idle, is_quiet}
+use Rattle.napi_types.specs.runs.Choice.{waiting_hooks}
 use Rattle.napi_types.specs.runs.Machine.{Machine}
 use Rattle.napi_types.specs.runs.Run.{IsNext, IsRunBy}
 use Rattle.napi_types.specs.runs.Setting.{Setting, opening_of, final_of}
@@ -64,11 +65,15 @@ abbrev pub TheLoopEndsByExitOrIdle : Type 0
 TheLoopEndsByExitOrIdle = (s : Setting) (bs : List Ask) (xs : List Entry) (a : Ask) (x : Entry) → IsRunBy (opening_of s) bs xs → has_shared xs ≡ false
     → IsNext (final_of s bs xs) a x → x.what ≡ what.Host host.LoopEnd → x.reply.out ≡ out.Ended (cond (has_exit xs) loop_end.Exit loop_end.Idle)
 
+-- the hub delivers behind the loop: between `drain` and `finals`, or before `drain` where no hook is left to begin and an asynchronous one waits
+abbrev pub DeliversBehindLoop : Machine → Type 0
+DeliversBehindLoop m = (m.env.phase ≡ phase.Drain) ⊎ (m.env.phase ≡ phase.Hooks) × (m.env.hooks ≡ []) × (0 < waiting_hooks m.env)
+
 -- in a run in which a call of `exit` stands a ticket begins a frame after `finals` alone, but that of a hook, which begins as in every other run. A duty of the
--- hub begins one between `drain` and `finals` alone
+-- hub begins one behind the loop alone: between `drain` and `finals`, and before `drain` only while an asynchronous hook waits
 abbrev pub WhatIsDueWaitsForFinalsOnceExitWasAsked : Type 0
 WhatIsDueWaitsForFinalsOnceExitWasAsked = (s : Setting) (bs : List Ask) (xs : List Entry) (a : Ask) (x : Entry) (c : Cause) (addon entry : ℕ) (d : Duty)
     → IsRunBy (opening_of s) bs xs → has_exit xs ≡ true → IsNext (final_of s bs xs) a x → x.what ≡ what.Host host.Begin
     → x.reply.out ≡ out.Begin c addon entry (Some d)
     → ((final_of s bs xs).env.phase ≡ phase.Finals) ⊎ BeginsLastHook (final_of s bs xs) d
-    ⊎ ((final_of s bs xs).env.phase ≡ phase.Drain) × BeginsOfHub (final_of s bs xs) d x
+    ⊎ DeliversBehindLoop (final_of s bs xs) × BeginsOfHub (final_of s bs xs) d x

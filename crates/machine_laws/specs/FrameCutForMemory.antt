@@ -15,13 +15,13 @@ use Rattle.machine_laws.specs.LegalRuns.{IsRun}
 
 -- the script, with one thread: a function without a maximum is called once, the item's frame calls it, and so does the thread
 abbrev pub setting : Setting
-setting = within 100 14 (script_for 1 0 (
+setting = within 100 15 (script_for 1 0 (
     (op.CreateThreadsafeFunction None (Some 1) 0 1 None 0 0 ∷ op.CallThreadsafeFunction 0 1 mode.Nonblocking ∷ [])
     ∷ (op.CallThreadsafeFunction 0 2 mode.Nonblocking ∷ [])
     ∷ []
     ))
 
--- the entries up to the begin of the item's frame: eleven places are taken, and the frame's call would take the last three
+-- the entries up to the begin of the item's frame: twelve places are taken, and the frame's call would take the last three
 abbrev pub prefix : List Entry
 prefix =
     opening_entries

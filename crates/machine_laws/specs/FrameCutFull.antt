@@ -28,7 +28,7 @@ setting_within places = within 100 places (script_for 0 0 (
 
 -- two of them have their places
 abbrev pub setting : Setting
-setting = setting_within 17
+setting = setting_within 18
 
 -- a call of an item's frame, which makes this item
 abbrev pub frame_call : ℕ → ℕ → Entry
@@ -91,7 +91,7 @@ Prints = text fixed_texts trace ≡
 pub record IsStrict : Type 0 where
   -- the third call is not accepted; with two places more it would be
   pub full : IsRun setting (next_after 9 trace (frame_call 2 4)) → ⊥
-  pub room : IsRun (setting_within 19) (next_after 9 trace (frame_call 2 4))
+  pub room : IsRun (setting_within 20) (next_after 9 trace (frame_call 2 4))
   -- the frame does not end there uncut, nor is it cut at the second call
   pub uncut : IsRun setting (next_after 9 trace frame_end) → ⊥
   pub early : IsRun setting (next_after 8 trace cut_full) → ⊥

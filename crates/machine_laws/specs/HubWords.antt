@@ -152,6 +152,10 @@ function_closes = host_entry host.CloseTsfn (out.Function function)
 abbrev pub function_finishes : Entry
 function_finishes = host_entry host.FinishTsfn (out.Function function)
 
+-- so many hooks that wait are abandoned
+abbrev pub abandons : ℕ → Entry
+abandons n = host_entry host.Abandon (out.Unsigned n)
+
 -- the drain, which cancels so many works, and the event after it
 abbrev pub drains : ℕ → Entry
 drains n = host_entry host.Drain (out.Unsigned n)

@@ -28,6 +28,8 @@ pub mod FrameCutInJournal
 pub mod FullQueue
 pub mod HandleAfterScope
 pub mod HandleLaws
+pub mod HookAbandoned
+pub mod HookRemovedByCompletion
 pub mod HubWords
 pub mod InstanceDataRun
 pub mod LegalRuns
@@ -45,9 +47,11 @@ pub mod ReferenceCounts
 pub mod ReleaseToZero
 pub mod RunLaws
 pub mod RunWords
+pub mod SettleMisses
 pub mod StaleHandle
 pub mod StrongAndWeak
 pub mod ThreadCutFull
+pub mod TicketDueInHooks
 pub mod TornWithoutEntry
 pub mod TsfnRoots
 pub mod TwoAddons

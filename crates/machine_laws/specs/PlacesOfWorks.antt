@@ -40,9 +40,10 @@ second_created n id = work_created n (call.CreateAsyncWork (job.Sum 2) 1 0) id
 abbrev pub cut_full : Entry
 cut_full = frame_ends (out.Cut why.Full)
 
--- six places are taken from the start; so with twelve the work is created and queued, and no second one is created. All twelve are then taken by entries
+-- seven places are taken from the start; so with thirteen the work is created and queued, and no second one is created. All of them are then taken by entries,
+-- but that of `abandon`, which the drain gives back
 abbrev pub setting : Setting
-setting = setting_within 12
+setting = setting_within 13
 
 -- the history
 abbrev pub history : List Entry
@@ -99,12 +100,12 @@ queued_twice =
     ∷ []
 
 pub record IsStrict : Type 0 where
-  -- with twelve places the second work is not created, whatever its number; with thirteen it would be
+  -- with thirteen places the second work is not created, whatever its number; with fourteen it would be
   pub second : (n : ℕ) → IsRun setting (next_after 4 trace (second_created 2 n)) → ⊥
-  pub room : IsRun (setting_within 13) (next_after 4 trace (second_created 2 2))
-  -- with eleven the first is not queued, and the frame is cut there
-  pub queued : IsRun (setting_within 11) (next_after 3 trace (queued 1)) → ⊥
-  pub cut : IsRun (setting_within 11) (next_after 3 trace cut_full)
-  -- four places are taken from the start. A cancelled work keeps two: so with fifteen another is queued, and with fourteen it is not
-  pub cancelled : IsRun (cancelling_within 15) queued_twice
-  pub kept : IsRun (cancelling_within 14) queued_twice → ⊥
+  pub room : IsRun (setting_within 14) (next_after 4 trace (second_created 2 2))
+  -- with twelve the first is not queued, and the frame is cut there
+  pub queued : IsRun (setting_within 12) (next_after 3 trace (queued 1)) → ⊥
+  pub cut : IsRun (setting_within 12) (next_after 3 trace cut_full)
+  -- five places are taken from the start. A cancelled work keeps two: so with sixteen another is queued, and with fifteen it is not
+  pub cancelled : IsRun (cancelling_within 16) queued_twice
+  pub kept : IsRun (cancelling_within 15) queued_twice → ⊥

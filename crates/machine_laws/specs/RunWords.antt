@@ -14,6 +14,7 @@ use Rattle.napi_types.specs.declared.entry.Out.TheVariants as out
 use Rattle.napi_types.specs.declared.entry.What.TheVariants as what
 use Rattle.napi_types.specs.declared.entry.Duty.{Duty}
 use Rattle.napi_types.specs.declared.entry.Reply.{Reply}
+use Rattle.napi_types.specs.declared.ids.AsyncHookId.{AsyncHookId}
 use Rattle.napi_types.specs.declared.ids.HandleId.{HandleId}
 use Rattle.napi_types.specs.declared.ids.RefId.{RefId}
 use Rattle.napi_types.specs.plain.Entries.{host_told, host_entry}
@@ -163,6 +164,10 @@ left_out n xs = take n xs ++ drop (n + 1) xs
 -- the lines of the opening entries
 abbrev pub opening_lines : List ℕ
 opening_lines = codes "1 env opened 0 9\n" ++ codes "2 env begin 0 init:0.0\n"
+
+-- the asynchronous hook of a number
+abbrev pub hook_id : ℕ → AsyncHookId
+hook_id n = record { 0 = n }
 
 -- the handle of a number, and the reference of a number
 abbrev pub handle : ℕ → HandleId

@@ -29,7 +29,7 @@ setting_within places = within 100 places (script_for 1 0 ((op.CreateThreadsafeF
 
 -- the first call has its three places, and the second has not
 abbrev pub setting : Setting
-setting = setting_within 13
+setting = setting_within 14
 
 -- its thread
 abbrev pub operations : List Op
@@ -88,10 +88,10 @@ Prints = text fixed_texts trace ≡
 pub record IsStrict : Type 0 where
   -- the second call is not accepted; with one place more it would be
   pub full : IsRun setting (next_after 7 trace second_call) → ⊥
-  pub room : IsRun (setting_within 14) (next_after 7 trace second_call)
+  pub room : IsRun (setting_within 15) (next_after 7 trace second_call)
   -- there the thread ends in no other way; with one place more it is not cut as full, and may be cut for want of memory, since the call takes some
   pub cut : (o : Out) → KeepsScript setting 0 operations (next_after 4 history (thread_ends 0 o)) → o ≡ out.Cut why.Full
-  pub memory : (o : Out) → KeepsScript (setting_within 14) 0 operations (next_after 4 history (thread_ends 0 o)) → o ≡ out.Cut why.Memory
+  pub memory : (o : Out) → KeepsScript (setting_within 15) 0 operations (next_after 4 history (thread_ends 0 o)) → o ≡ out.Cut why.Memory
   -- a release, which needs its own place alone, would have it, but it is not the next call of the script
   pub release : IsRun setting (next_after 7 trace release_next)
   pub order : KeepsScript setting 0 operations (next_after 4 history release_next) → ⊥

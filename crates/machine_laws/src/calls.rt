@@ -2,7 +2,7 @@
 ghost use Rattle.machine_laws.specs.CallLaws.{RefusesUnknownHandles, RefusesUnknownInEachRow, TakesKnownHandles, ExternalsAreTaggedOnly, OnlyExternalsAreRead};
 ghost use Rattle.machine_laws.specs.CallLaws.{OnlyFunctionsAreServed, EachDutyHasPlaces, RegisteringCallsGrow, NeedsAndGrowth};
 ghost use Rattle.machine_laws.specs.CallLaws.{EveryCallHasARow, RefusedCallsChangeNothing, ErrorNamesAreFixed, ReferencesAreNamedAlone, HooksAreNamedAlone};
-ghost use Rattle.machine_laws.specs.CallLaws.{ExitChangesNothingElse};
+ghost use Rattle.machine_laws.specs.CallLaws.{AsyncHooksAreKnownByNumber, ExitChangesNothingElse};
 
 /// What refuses a call, and what a refused call changes.
 pub fn refusals()
@@ -21,6 +21,9 @@ pub fn refusals()
 
     // A call on hooks names no reference, no handle and no text, so that the order of its refusals shows nowhere.
     ensures hooks { HooksAreNamedAlone }
+
+    // An asynchronous hook is known by its number alone: none is refused as doubled, no call on plain hooks finds one, and none is removed twice.
+    ensures numbers { AsyncHooksAreKnownByNumber }
 {}
 
 /// Which kinds of values calls take.

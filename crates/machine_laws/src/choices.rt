@@ -2,7 +2,8 @@
 ghost use Rattle.machine_laws.specs.LegalRuns.{EndsAsTold};
 ghost use Rattle.machine_laws.specs.Choices.{NoneIsChosenInFrames, OthersComeWhereTheyAre, BeginsTellTheirFrames, OwnEventsComeFirst, HubEventsComeLast};
 ghost use Rattle.machine_laws.specs.Choices.{GoComesAfterInitFrames, GoneComesAfterFinals, HubIsInPhase};
-ghost use Rattle.machine_laws.specs.Choices.{GoComesOnlyAfterInitFrames, DrainComesOnlyAfterHooks, FinalsComeOnlyOnceAllEnded, GoneComesOnlyAfterFinals};
+ghost use Rattle.machine_laws.specs.Choices.{GoComesOnlyAfterInitFrames, AbandonComesOnlyWhereHooksWait, DrainComesNextAfterAbandon};
+ghost use Rattle.machine_laws.specs.Choices.{DrainComesOnlyAfterHooks, FinalsComeOnlyOnceAllEnded, GoneComesOnlyAfterFinals};
 ghost use Rattle.machine_laws.specs.Choices.{LowestDueTicketComesFirst, LastHookComesFirst, TicketsBeginAtTheirMoments, LowestDueIsLowest};
 ghost use Rattle.machine_laws.specs.TwoAddons as two_addons;
 
@@ -39,7 +40,14 @@ pub fn great_events()
     // In a run `go` comes in the phase of the init frames alone, once each addon had its frame.
     ensures go_only { GoComesOnlyAfterInitFrames }
 
-    // In a run `drain` comes after the end of the loop alone, once each hook has begun or was removed.
+    // In a run `abandon` comes after the end of the loop alone, once each hook has begun or was removed, while an asynchronous one waits. The hub then
+    // has no move, and nobody is left who could give it one. It tells how many wait, and did not come before.
+    ensures abandon_only { AbandonComesOnlyWhereHooksWait }
+
+    // Behind `abandon` nothing comes of the environment before `drain`.
+    ensures abandon_last { DrainComesNextAfterAbandon }
+
+    // In a run `drain` comes after the end of the loop alone, once each hook has begun or was removed, and no asynchronous one waits.
     ensures drain_only { DrainComesOnlyAfterHooks }
 
     // In a run `finals` comes after `drain` alone, once every thread and every worker has ended, no work runs, and the hub has no move left.
@@ -57,12 +65,13 @@ pub fn moments_of_duties()
     // The lowest ticket that is due is due, and none below it is.
     ensures least { LowestDueIsLowest }
 
-    // Between the end of the loop and `drain` the hook that was added last comes first, before `drain` and before every ticket that is due.
+    // Between the end of the loop and `drain` the hook that was added last comes first: before what the hub delivers, before `abandon` and `drain`, and
+    // before every ticket that is due.
     ensures hook { LastHookComesFirst }
 
     // A duty begins a frame where no frame stands. In the loop while exit was not asked, and after `finals`, it is the lowest ticket that is due.
     // Between the end of the loop and `drain` it is the hook that was added last. What the hub delivers begins where the environment decides nothing
-    // alone, before the end of the loop or between `drain` and `finals`. Everywhere else duties wait.
+    // alone: before the end of the loop, between `drain` and `finals`, and between the two while an asynchronous hook waits. Everywhere else duties wait.
     ensures moments { TicketsBeginAtTheirMoments }
 {}
 

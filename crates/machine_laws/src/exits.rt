@@ -18,7 +18,7 @@ pub fn exit_ends_the_loop()
     ensures alone { TheLoopEndsByExitOrIdle }
 
     // In a run in which a call of `exit` stands no ticket begins in the loop: what is due then waits for `finals`, and hooks alone begin before. What
-    // the hub delivers waits for `drain`.
+    // the hub delivers waits for `drain`, or comes before it where no hook is left to begin and an asynchronous one waits.
     ensures waits { WhatIsDueWaitsForFinalsOnceExitWasAsked }
 {}
 

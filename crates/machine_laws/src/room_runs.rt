@@ -35,14 +35,14 @@ pub fn frame_cut_in_journal_runs()
     ensures strict { frame_cut_in_journal.IsStrict }
 {}
 
-/// The places that works take: to the last of twelve, and how many a cancelled one gives back.
+/// The places that works take: to the last of thirteen, but that of `abandon`, and how many a cancelled one gives back.
 pub fn places_of_works_run()
     ensures ends { EndsOnItsLists places_of_works.setting places_of_works.journal places_of_works.history }
     ensures actors { places_of_works.ActInOrder }
     ensures strict { places_of_works.IsStrict }
 {}
 
-/// The places that the history still owes after each entry of five runs, in which works, items and functions come and go.
+/// The places that the history still owes after each entry of six runs, in which works, items and functions come and go, and hooks are abandoned.
 pub fn places_are_owed_along_runs()
     ensures { OweInOrder }
 {}

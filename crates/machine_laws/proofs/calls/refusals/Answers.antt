@@ -17,6 +17,7 @@ use Rattle.napi_types.specs.environment.Moments.{refusal_by_moment}
 use Rattle.napi_types.specs.environment.Refusals.{refusal_before_depth, depth_refusal, group_refusal, refusal_by_state}
 use Rattle.machine_laws.specs.CallLaws.{RefusedCallsChangeNothing, RefusesUnknownHandles, RefusesUnknownInEachRow, TakesKnownHandles}
 use Rattle.machine_laws.proofs.Naming.{fails-all, passes-all, named-alone, hooks-alone}
+use Rattle.machine_laws.proofs.HookNumbers.{known-by-number}
 use Rattle.machine_laws.proofs.calls.refusals.Goals as goal
 
 reply-of : (e : Environment) (c : Call) (n : ℕ) (early deep : Option Status) (s : Status) → option_or early deep ≡ Some s → (answer_unless_deep e c n early deep).reply ≡ plain s out.Nothing
@@ -120,3 +121,6 @@ returns-clause-references c = named-alone
 
 pub returns-clause-hooks : goal.returns-clause-hooks
 returns-clause-hooks c = hooks-alone
+
+pub returns-clause-numbers : goal.returns-clause-numbers
+returns-clause-numbers c = known-by-number

@@ -31,7 +31,7 @@ use Rattle.machine_laws.proofs.cuts.little_room_cuts.Goals as goal
 -- a local call that needs one place is not full at the first ask
 not-full : (c : Call) → is_shared c ≡ false → need c ≡ 1 → is_full (room_of machine_begun c) c ≡ false
 not-full c alone one =
-    ap (λ b. is_full (cond b (history_room machine_begun.hub 0 4) (journal_room machine_begun.env 2 5)) c) alone ∙ ap (λ n. nat_lt 5 (4 + n)) one
+    ap (λ b. is_full (cond b (history_room machine_begun.hub 0 5) (journal_room machine_begun.env 2 5)) c) alone ∙ ap (λ n. nat_lt 5 (4 + n)) one
 
 room : (c : Call) → is_shared c ≡ false → need c ≡ 1 → IsNext machine_begun (ask.Do c) (cut_by cause.Init why.Full) → ⊥
 room c alone one n =
@@ -41,8 +41,8 @@ room c alone one n =
 -- a shared call is
 shared : (c : Call) → is_shared c ≡ true → IsCutFull machine_begun c
 shared c is =
-    let room : room_of machine_begun c ≡ history_room machine_begun.hub 0 4 = ap (λ b. cond b (history_room machine_begun.hub 0 4) (journal_room machine_begun.env 2 5)) is in
-    cut-full machine_begun c _ _ refl refl refl refl refl refl refl (ap (λ r. is_full r c) room ∙ taken-full 4 c) (λ shares. ap (λ r. may_want_memory r c) room ∙ taken-wants c)
+    let room : room_of machine_begun c ≡ history_room machine_begun.hub 0 5 = ap (λ b. cond b (history_room machine_begun.hub 0 5) (journal_room machine_begun.env 2 5)) is in
+    cut-full machine_begun c _ _ refl refl refl refl refl refl refl (ap (λ r. is_full r c) room ∙ taken-full 5 c) (λ shares. ap (λ r. may_want_memory r c) room ∙ taken-wants c)
 
 stays : (h : HandleId) → IsNext machine_begun (ask.Do (call.Typeof h)) (cut_by cause.Init why.Memory) → ⊥
 stays h n = cc
@@ -64,7 +64,7 @@ returns-clause-first c = record {
 }
 
 second-wants : (c : Call) → is_shared c ≡ true → may_want_memory (room_of first_called c) c ≡ true
-second-wants c shared = ap (λ b. may_want_memory (cond b (history_room first_called.hub 0 4) (journal_room first_called.env 3 5)) c) shared ∙ taken-wants c
+second-wants c shared = ap (λ b. may_want_memory (cond b (history_room first_called.hub 0 5) (journal_room first_called.env 3 5)) c) shared ∙ taken-wants c
 
 second-full : FullAtSecondCall
 second-full c = cut-full first_called c _ _ refl refl refl refl refl refl refl (full-there c) (second-wants c)
@@ -73,7 +73,7 @@ pub returns-clause-second : goal.returns-clause-second
 returns-clause-second c = second-full
 
 registers-want : (c : Call) → is_shared c ≡ true → may_want_memory (room_of two_left c) c ≡ true
-registers-want c shared = ap (λ b. may_want_memory (cond b (history_room two_left.hub 0 4) (journal_room two_left.env 2 6)) c) shared ∙ taken-wants c
+registers-want c shared = ap (λ b. may_want_memory (cond b (history_room two_left.hub 0 5) (journal_room two_left.env 2 6)) c) shared ∙ taken-wants c
 
 registers-full : (c : Call) → is_registering c ≡ true → IsCutFull two_left c
 registers-full c registers = cut-full two_left c _ _ refl refl refl refl refl refl refl (two-full c registers) (registers-want c)

@@ -18,8 +18,8 @@ returns-clause-prints c = refl
 is-full : IsRun setting (next_after 9 trace (frame_call 2 4)) → ⊥
 is-full r = let z : _ = told-may setting _ refl r in cc
 
-has-room : IsRun (setting_within 19) (next_after 9 trace (frame_call 2 4))
-has-room = runs-as-told (setting_within 19) (next_after 9 trace (frame_call 2 4)) (refl, refl) refl
+has-room : IsRun (setting_within 20) (next_after 9 trace (frame_call 2 4))
+has-room = runs-as-told (setting_within 20) (next_after 9 trace (frame_call 2 4)) (refl, refl) refl
 
 not-uncut : IsRun setting (next_after 9 trace frame_end) → ⊥
 not-uncut r = let z : _ = told-may setting _ refl r in cc

@@ -16,20 +16,20 @@ returns-clause-actors c = record { threads = one-keeps setting [] history refl r
 not-second : (n : ℕ) → IsRun setting (next_after 4 trace (second_created 2 n)) → ⊥
 not-second n r = let z : _ = told-may setting _ refl r in cc
 
-has-room : IsRun (setting_within 13) (next_after 4 trace (second_created 2 2))
-has-room = runs-as-told (setting_within 13) (next_after 4 trace (second_created 2 2)) (refl, refl) refl
+has-room : IsRun (setting_within 14) (next_after 4 trace (second_created 2 2))
+has-room = runs-as-told (setting_within 14) (next_after 4 trace (second_created 2 2)) (refl, refl) refl
 
-not-queued : IsRun (setting_within 11) (next_after 3 trace (queued 1)) → ⊥
-not-queued r = let z : _ = told-may (setting_within 11) _ refl r in cc
+not-queued : IsRun (setting_within 12) (next_after 3 trace (queued 1)) → ⊥
+not-queued r = let z : _ = told-may (setting_within 12) _ refl r in cc
 
-is-cut : IsRun (setting_within 11) (next_after 3 trace cut_full)
-is-cut = runs-as-told (setting_within 11) (next_after 3 trace cut_full) (refl, refl) refl
+is-cut : IsRun (setting_within 12) (next_after 3 trace cut_full)
+is-cut = runs-as-told (setting_within 12) (next_after 3 trace cut_full) (refl, refl) refl
 
-queues-again : IsRun (cancelling_within 15) queued_twice
-queues-again = runs-as-told (cancelling_within 15) queued_twice (refl, refl) refl
+queues-again : IsRun (cancelling_within 16) queued_twice
+queues-again = runs-as-told (cancelling_within 16) queued_twice (refl, refl) refl
 
-not-again : IsRun (cancelling_within 14) queued_twice → ⊥
-not-again r = let z : _ = told-may (cancelling_within 14) _ refl r in cc
+not-again : IsRun (cancelling_within 15) queued_twice → ⊥
+not-again r = let z : _ = told-may (cancelling_within 15) _ refl r in cc
 
 pub returns-clause-strict : goal.returns-clause-strict
 returns-clause-strict c = record { second = not-second; room = has-room; queued = not-queued; cut = is-cut; cancelled = queues-again; kept = not-again }

@@ -30,13 +30,13 @@ returns-clause-prints c = refl
 is-full : IsRun setting (next_after 7 trace second_call) → ⊥
 is-full r = let z : _ = told-may setting _ refl r in cc
 
-has-room : IsRun (setting_within 14) (next_after 7 trace second_call)
-has-room = runs-as-told (setting_within 14) (next_after 7 trace second_call) (refl, refl) refl
+has-room : IsRun (setting_within 15) (next_after 7 trace second_call)
+has-room = runs-as-told (setting_within 15) (next_after 7 trace second_call) (refl, refl) refl
 
 is-cut : (o : Out) → KeepsScript setting 0 operations (next_after 4 history (thread_ends 0 o)) → o ≡ out.Cut why.Full
 is-cut o k = (k.1.1.1.1.0 refl).0
 
-not-full : (o : Out) → KeepsScript (setting_within 14) 0 operations (next_after 4 history (thread_ends 0 o)) → o ≡ out.Cut why.Memory
+not-full : (o : Out) → KeepsScript (setting_within 15) 0 operations (next_after 4 history (thread_ends 0 o)) → o ≡ out.Cut why.Memory
 not-full o k = (k.1.1.1.1.0 refl).0
 
 release-has-room : IsRun setting (next_after 7 trace release_next)
