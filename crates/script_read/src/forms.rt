@@ -73,6 +73,7 @@ fn with_register(kind: Op, x: u8) -> Option<Op>
         Op::CloseEscapableHandleScope(..) => Some(Op::CloseEscapableHandleScope(x)),
         Op::DeleteReference(..) => Some(Op::DeleteReference(x)),
         Op::Throw(..) => Some(Op::Throw(x)),
+        Op::RemoveAsyncCleanupHook(..) => Some(Op::RemoveAsyncCleanupHook(x)),
         Op::DeleteAsyncWork(..) => Some(Op::DeleteAsyncWork(x)),
         Op::CancelAsyncWork(..) => Some(Op::CancelAsyncWork(x)),
         Op::QueueAsyncWork(..) => Some(Op::QueueAsyncWork(x)),
@@ -185,6 +186,12 @@ fn with_three_arguments(entries: u32, kind: Op, a: &Value, b: &Value, c: &Value)
             whole(a),
             entry_or_none(entries, b),
             whole(c)
+        ),
+        Op::AddAsyncCleanupHook(..) => from!(
+            Op::AddAsyncCleanupHook,
+            entry_number(entries, a),
+            whole(b),
+            register(c)
         ),
         Op::CallThreadsafeFunction(..) => from!(
             Op::CallThreadsafeFunction,

@@ -217,6 +217,17 @@ fn of_twenty_one(name: &str) -> Option<Op>
     }
 }
 
+/// The kind of a name of twenty-two letters.
+fn of_twenty_two(name: &str) -> Option<Op>
+    ensures { result ≡ named name.now (operations_of_length 22) }
+{
+    match name {
+        _ if is(name, "get_value_bigint_int64") => Some(Op::GetValueBigintInt64(0, 0)),
+        _ if is(name, "add_async_cleanup_hook") => Some(Op::AddAsyncCleanupHook(0, 0, 0)),
+        _ => None,
+    }
+}
+
 /// The kind of a name of twenty-three letters.
 fn of_twenty_three(name: &str) -> Option<Op>
     ensures { result ≡ named name.now (operations_of_length 23) }
@@ -224,6 +235,17 @@ fn of_twenty_three(name: &str) -> Option<Op>
     match name {
         _ if is(name, "ref_threadsafe_function") => Some(Op::RefThreadsafeFunction(0)),
         _ if is(name, "remove_env_cleanup_hook") => Some(Op::RemoveEnvCleanupHook(0, 0)),
+        _ => None,
+    }
+}
+
+/// The kind of a name of twenty-five letters.
+fn of_twenty_five(name: &str) -> Option<Op>
+    ensures { result ≡ named name.now (operations_of_length 25) }
+{
+    match name {
+        _ if is(name, "remove_async_cleanup_hook") => Some(Op::RemoveAsyncCleanupHook(0)),
+        _ if is(name, "unref_threadsafe_function") => Some(Op::UnrefThreadsafeFunction(0)),
         _ => None,
     }
 }
@@ -276,22 +298,14 @@ fn of_length(name: &str, length: usize) -> Option<Op>
         19 => of_nineteen(name),
         20 => of_twenty(name),
         21 => of_twenty_one(name),
-        22 => if_named(
-            name,
-            "get_value_bigint_int64",
-            Op::GetValueBigintInt64(0, 0),
-        ),
+        22 => of_twenty_two(name),
         23 => of_twenty_three(name),
         24 => if_named(
             name,
             "call_threadsafe_function",
             Op::CallThreadsafeFunction(0, 0, Mode::Nonblocking),
         ),
-        25 => if_named(
-            name,
-            "unref_threadsafe_function",
-            Op::UnrefThreadsafeFunction(0),
-        ),
+        25 => of_twenty_five(name),
         26 => if_named(
             name,
             "create_threadsafe_function",

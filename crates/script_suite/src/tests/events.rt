@@ -2,8 +2,8 @@
 use super::traces::{check, event};
 use napi_types::Actor::{Env, Thread, Worker};
 use napi_types::HostStep::{
-    ActorEnd, Begin, CloseTsfn, Drain, End, Finals, Finish, FinishTsfn, Go, Gone, LoopEnd, Opened,
-    Start,
+    Abandon, ActorEnd, Begin, CloseTsfn, Drain, End, Finals, Finish, FinishTsfn, Go, Gone, LoopEnd,
+    Opened, Start,
 };
 use napi_types::Status::{
     ArrayExpected, ArraybufferExpected, BigintExpected, BooleanExpected, CallbackScopeMismatch,
@@ -30,12 +30,13 @@ const OTHER_WORK: Option<Duty> = Some(Duty::Work(1));
 type Event = (Actor, HostStep, Status, Option<Duty>, Option<Duty>);
 
 /// Each event of the environment, each status, each actor, and each duty: withdrawn, made, and made where another is withdrawn.
-const EVENTS: [Event; 51] = [
+const EVENTS: [Event; 52] = [
     (Env, Opened, Status::Ok, None, None),
     (Env, Begin, Status::Ok, None, None),
     (Env, End, Status::Ok, None, None),
     (Env, Go, Status::Ok, None, None),
     (Env, LoopEnd, Status::Ok, None, None),
+    (Env, Abandon, Status::Ok, None, None),
     (Env, CloseTsfn, Status::Ok, None, None),
     (Env, FinishTsfn, Status::Ok, None, None),
     (Env, Drain, Status::Ok, None, None),
@@ -90,52 +91,53 @@ const LINES: &str = "1 env opened 0 -
 3 env end 0 -
 4 env go 0 -
 5 env loop_end 0 -
-6 env close_tsfn 0 -
-7 env finish_tsfn 0 -
-8 env drain 0 -
-9 env finals 0 -
-10 env gone 0 -
-11 env drain 0 -
-12 env drain 1 -
-13 env drain 2 -
-14 env drain 3 -
-15 env drain 4 -
-16 env drain 5 -
-17 env drain 6 -
-18 env drain 7 -
-19 env drain 8 -
-20 env drain 9 -
-21 env drain 10 -
-22 env drain 11 -
-23 env drain 12 -
-24 env drain 13 -
-25 env drain 14 -
-26 env drain 15 -
-27 env drain 16 -
-28 env drain 17 -
-29 env drain 18 -
-30 env drain 19 -
-31 env drain 20 -
-32 env drain 21 -
-33 env drain 22 -
-34 env drain 23 -
-35 env drain 1000 -
-36 env drain 1001 -
-37 w0 start 0 -
-38 w15 finish 0 -
-39 t2 actor_end 0 -
-40 env gone 0 - -#4
-41 env go 0 - +#4
-42 env go 0 - -j1 +#4
-43 env gone 0 - -j4
-44 env go 0 - +j4
-45 env go 0 - -j1 +j4
-46 env gone 0 - -f2.7
-47 env go 0 - +f2.7
-48 env go 0 - -j1 +f2.7
-49 env gone 0 - -f2
-50 env go 0 - +f2
-51 env go 0 - -j1 +f2
+6 env abandon 0 -
+7 env close_tsfn 0 -
+8 env finish_tsfn 0 -
+9 env drain 0 -
+10 env finals 0 -
+11 env gone 0 -
+12 env drain 0 -
+13 env drain 1 -
+14 env drain 2 -
+15 env drain 3 -
+16 env drain 4 -
+17 env drain 5 -
+18 env drain 6 -
+19 env drain 7 -
+20 env drain 8 -
+21 env drain 9 -
+22 env drain 10 -
+23 env drain 11 -
+24 env drain 12 -
+25 env drain 13 -
+26 env drain 14 -
+27 env drain 15 -
+28 env drain 16 -
+29 env drain 17 -
+30 env drain 18 -
+31 env drain 19 -
+32 env drain 20 -
+33 env drain 21 -
+34 env drain 22 -
+35 env drain 23 -
+36 env drain 1000 -
+37 env drain 1001 -
+38 w0 start 0 -
+39 w15 finish 0 -
+40 t2 actor_end 0 -
+41 env gone 0 - -#4
+42 env go 0 - +#4
+43 env go 0 - -j1 +#4
+44 env gone 0 - -j4
+45 env go 0 - +j4
+46 env go 0 - -j1 +j4
+47 env gone 0 - -f2.7
+48 env go 0 - +f2.7
+49 env go 0 - -j1 +f2.7
+50 env gone 0 - -f2
+51 env go 0 - +f2
+52 env go 0 - -j1 +f2
 ";
 
 /// The entries of events.
