@@ -10,7 +10,7 @@ DUTIES = re.compile(r"( -(?P<dropped>#\d+))?( \+(?P<made>[#jf][\d.]+))?$")
 BEGUN = re.compile(r"\w+:\d+\.\d+(?::([#jf][\d.]+))?$")
 FRAME = re.compile(r"(\w+):(\d+)\.(\d+)")
 PHASES = ["opened", "go", "loop_end", "drain", "finals", "gone"]
-STEPS = {*PHASES, "close_tsfn", "finish_tsfn"}
+STEPS = {*PHASES, "abandon", "close_tsfn", "finish_tsfn"}
 
 
 class Unlawful(Exception):
@@ -126,6 +126,8 @@ def judge(script, text, is_short):
         judge_worker(actors.pop(f"w{at}", []), begun)
     need(set(actors) == {"env"}, "an actor makes a line that is not there")
     places = {it[1]: at for at, it in enumerate(lines) if it[0] == "env" and it[1] in PHASES}
+    abandoned = [at for at, it in enumerate(lines) if it[:2] == ("env", "abandon")]
+    need(len(abandoned) < 2 and all(places["loop_end"] < at < places["drain"] for at in abandoned), "hooks are abandoned twice, or not before the drain")
     for at, line in enumerate(lines):
         need(line[0][0] != "t" or at > places["go"], "a thread makes a line before `go`")
         need(line[0] == "env" or at < places["finals"], "an actor makes a line behind `finals`")

@@ -84,7 +84,8 @@ def of_thread(at, operations):
 
 def as_c(script, name, keeping, plan):
     """Returns the source of a script, of which `plan` says what the trace here tells: how many calls each thread makes before the loop ends, pairs of
-    events of which the first comes first, the works that a call cancels before they start, and what the calls of each frame gave."""
+    events of which the first comes first, the works that a call cancels before they start, whether asynchronous hooks may be left to wait, and what the
+    calls of each frame gave."""
     addons, threads = script["addons"], [it[:many] for it, many in zip(script["threads"], plan.early)]
     out = [f"/* Made of {name} by tools/beside. */", f"#define NAPI_VERSION {script['version']}", '#include "calls.h"', ""]
     for at, addon in enumerate(addons):
@@ -100,5 +101,6 @@ def as_c(script, name, keeping, plan):
     out.append(listed("const u64", "HELD_BACK", map(str, plan.held_back), "0"))
     counts = {"TEXT_COUNT": texts, "ANSWER_COUNT": given, "PLAN_COUNT": addons, "THREAD_COUNT": threads}
     counts |= {"TURN_COUNT": plan.turns, "HELD_BACK_COUNT": plan.held_back}
+    out.append(f"const bool HOOKS_WAIT = {argument(plan.hooks_wait)};")
     out.append(f"const size_t {', '.join(f'{it} = {len(items)}' for it, items in counts.items())}, WORKERS = {max(1, script['workers'])};")
     return "\n".join(out) + "\n"

@@ -63,6 +63,7 @@ extern const plan PLANS[];
 extern const thread_plan THREADS[];
 extern const turn TURNS[];
 extern const u64 HELD_BACK[]; /* The works that a call cancels before they start. */
+extern const bool HOOKS_WAIT; /* Whether an asynchronous hook may be left to wait. */
 extern const size_t TEXT_COUNT, ANSWER_COUNT, PLAN_COUNT, THREAD_COUNT, TURN_COUNT, HELD_BACK_COUNT, WORKERS;
 
 /* What stands while the script runs. */
@@ -122,6 +123,13 @@ typedef struct {
   u64 argument, ticket;
   bool waits;
 } hook;
+typedef struct {
+  napi_env env;
+  napi_async_cleanup_hook_handle handle;
+  int addon, entry;
+  u64 argument, ticket, number;
+  bool removed;
+} async_hook;
 
 static struct {
   napi_env env;
@@ -135,10 +143,11 @@ static napi_ref *REFS;
 static work **WORKS;
 static tsfn *TSFNS[TABLE]; /* Threads read it, so it stays where it is. */
 static hook **HOOKS;
+static async_hook **ASYNC_HOOKS;
 static function **FUNCTIONS;
 static u64 *FUNCTION_HANDLES;
 static size_t HANDLE_COUNT = 1, HELD_COUNT, SCOPE_COUNT, FUNCTION_COUNT;
-static u64 SCOPE_NUMBER, REF_COUNT, WORK_COUNT, QUEUED, TSFN_COUNT, HOOK_COUNT, TICKET, ENTERED;
+static u64 SCOPE_NUMBER, REF_COUNT, WORK_COUNT, QUEUED, TSFN_COUNT, HOOK_COUNT, ASYNC_HOOK_COUNT, TICKET, ENTERED;
 static int DEPTH, NEXT_ADDON;
 static bool EXIT, TEARDOWN;
 static const char *UNTOLD; /* Why the last status is not that of the script's last call, where it is not. */
@@ -1046,6 +1055,52 @@ static void remove_env_cleanup_hook(frame *f, int e, u64 argument) {
   napi_status s = napi_remove_env_cleanup_hook(f->env, run_hook, h ? h : &none);
   if (s == napi_ok && h) h->waits = false;
   answer_with(f, "remove_env_cleanup_hook", s, "-", h ? duty(" -#%llu", h->ticket, 0) : "");
+}
+
+/* Asynchronous hooks. Where here one is abandoned, or a thread calls while one waits, the process would not end: there each one
+ * that has not been removed is removed as its frame ends. */
+static async_hook *async_hook_of(u64 n) { return n > 0 && n <= ASYNC_HOOK_COUNT ? ASYNC_HOOKS[n] : NULL; }
+static napi_status remove_async(async_hook *h) {
+  h->removed = true;
+  return napi_remove_async_cleanup_hook(h->handle);
+}
+static void run_async_hook(napi_async_cleanup_hook_handle handle, void *data) {
+  async_hook *h = data;
+  char text[32];
+  u64 gifts[GIFT_COUNT] = {h->argument, h->number};
+  (void)handle;
+  snprintf(text, sizeof text, "#%llu", (unsigned long long)h->ticket);
+  ends(NULL);
+  outermost(h->env, "hook", h->addon, h->entry, text, "0", gifts);
+  if (!HOOKS_WAIT && !h->removed) remove_async(h);
+}
+static void add_async_cleanup_hook(frame *f, int e, u64 argument, int w) {
+  const char *name = "add_async_cleanup_hook";
+  if (registers_late(f, name)) return;
+  async_hook *h = calloc(1, sizeof *h);
+  *h = (async_hook){f->env, NULL, f->addon, e, argument, 0, 0, false};
+  napi_status s = napi_add_async_cleanup_hook(f->env, run_async_hook, h, &h->handle);
+  if (s == napi_ok) {
+    h->ticket = next_ticket(f);
+    ROOM_IN(ASYNC_HOOKS, ASYNC_HOOK_COUNT);
+    h->number = ++ASYNC_HOOK_COUNT;
+    ASYNC_HOOKS[h->number] = h;
+    if (is_kept(f, s)) f->regs[w] = h->number;
+  }
+  answer_with(f, name, s, "hook", duty(" +#%llu", h->ticket, 0));
+}
+static void remove_async_cleanup_hook(frame *f, int r) {
+  const char *name = "remove_async_cleanup_hook";
+  async_hook *h = async_hook_of(f->regs[r]);
+  if (f->regs[r] == NOT_KNOWN) {
+    not_made(f, name, "the runtime gave none");
+    return;
+  }
+  if (h && h->removed) {
+    not_made(f, name, "the hook was removed");
+    return;
+  }
+  answer(f, name, h ? remove_async(h) : napi_remove_async_cleanup_hook(NULL), "-");
 }
 
 /* Works. */

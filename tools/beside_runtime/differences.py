@@ -28,7 +28,7 @@ class Trace:
 
     def __init__(self):
         self.frames, self.outermost, self.threads, self.notes, self.events, self.early = {}, [], collections.defaultdict(list), [], [], collections.Counter()
-        self.made, self.phase, self.loop_end, self.back = {}, LOOP, None, []
+        self.made, self.phase, self.loop_end, self.abandons, self.back = {}, LOOP, None, False, []
 
     def event(self, actor, waits, awaited):
         """Takes in a line by which turns are kept. Once the loop has ended none are: how a runtime goes on then is its own."""
@@ -88,6 +88,8 @@ class Reader:
         elif name == "loop_end":
             self.trace.next_of_loop("env loop_end")
             self.trace.phase, self.trace.loop_end = TEARDOWN, rest
+        elif name == "abandon":
+            self.trace.abandons = True
         elif name == "go":
             self.trace.event("env", [], "env go")
             self.trace.back = ["env back"]
@@ -179,6 +181,7 @@ class Plan:
         self.turns = turns_of(trace) + [(call, f"hold {work}") for work, call in held]
         self.held_back = [work[1:] for work, _ in held]
         self.answers = list(answers_of(trace))
+        self.hooks_wait = not trace.abandons and all(len(calls) == trace.early[actor] for actor, calls in trace.threads.items())
 
 
 def held_back(trace):

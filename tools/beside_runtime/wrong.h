@@ -1,4 +1,4 @@
-/* Fourteen wrong runtimes: WRONG is the number of one. Each is a call that answers wrongly, and a comparison has to notice it:
+/* Fifteen wrong runtimes: WRONG is the number of one. Each is a call that answers wrongly, and a comparison has to notice it:
  * tools/beside --cc "cc -DWRONG=1" --rows */
 #if WRONG == 1
 static napi_status wrong(napi_env e, napi_value a, napi_value b, bool *r) {
@@ -90,4 +90,7 @@ static napi_status wrong(napi_env e, napi_async_work w) {
   return napi_ok;
 }
 #define napi_cancel_async_work wrong
+#elif WRONG == 15
+static napi_status wrong(napi_async_cleanup_hook_handle h) { return h ? napi_remove_async_cleanup_hook(h) : napi_ok; }
+#define napi_remove_async_cleanup_hook wrong
 #endif
