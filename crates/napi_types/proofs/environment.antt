@@ -11,6 +11,7 @@ pub mod HookedBooks
 pub mod HookedSteps
 pub mod MadeTickets
 pub mod Owners
+pub mod Promised
 pub mod Registrations
 pub mod StandingFrames
 pub mod Told

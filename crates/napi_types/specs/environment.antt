@@ -17,6 +17,8 @@ pub mod JournalRoom
 pub mod MadeTickets
 pub mod Moments
 pub mod Owners
+pub mod PromiseCalls
+pub mod Promised
 pub mod ReferenceCalls
 pub mod Refusals
 pub mod Registering

@@ -4,7 +4,7 @@ ghost use Rattle.napi_types.specs.plain.CallFacts.{AreFactsOf};
 ghost use Rattle.napi_types.specs.plain.CallKinds.{is_entering_group, is_value_group};
 ghost use Rattle.napi_types.specs.plain.Guards.{is_shared_group};
 
-use crate::{AsyncHookId, HandleId, RefId, ScopeId, TextNo, TsfnId, WorkId};
+use crate::{AsyncHookId, DeferredId, HandleId, RefId, ScopeId, TextNo, TsfnId, WorkId};
 
 /// What an asynchronous work computes.
 #[derive(Clone, Copy, Debug, PartialEq, Eq)]
@@ -127,6 +127,13 @@ pub enum Call {
     AddAsyncCleanupHook(u32, u64),
     RemoveAsyncCleanupHook(AsyncHookId),
 
+    // Promises.
+    CreatePromise,
+    /// The deferred and the value.
+    ResolveDeferred(DeferredId, HandleId),
+    RejectDeferred(DeferredId, HandleId),
+    IsPromise(HandleId),
+
     // Asynchronous works.
     /// The job, the completion's entry and the payload.
     CreateAsyncWork(JobSpec, u32, u64),
@@ -166,6 +173,7 @@ pub enum CallGroup {
     OnExceptions,
     OnInstances,
     OnHooks,
+    OnPromises,
     OnWorks,
     OnTsfns,
     OnVersion,
@@ -237,7 +245,8 @@ impl Call {
             | Call::GetValueBool(_)
             | Call::GetValueStringUtf8(_)
             | Call::GetValueExternal(_)
-            | Call::GetArrayLength(_) => (CallGroup::OnValues, false, false, 1),
+            | Call::GetArrayLength(_)
+            | Call::IsPromise(_) => (CallGroup::OnValues, false, false, 1),
             Call::StrictEquals(..) => (CallGroup::OnValues, true, false, 1),
             Call::SetNamedProperty(..)
             | Call::GetNamedProperty(..)
@@ -284,6 +293,9 @@ impl Call {
             }
             Call::RemoveEnvCleanupHook(..) | Call::RemoveAsyncCleanupHook(_) => {
                 (CallGroup::OnHooks, false, false, 1)
+            }
+            Call::CreatePromise | Call::ResolveDeferred(..) | Call::RejectDeferred(..) => {
+                (CallGroup::OnPromises, true, false, 1)
             }
             Call::CreateAsyncWork(..) => (CallGroup::OnWorks, false, true, 1),
             Call::DeleteAsyncWork(_) | Call::CancelAsyncWork(_) => {

@@ -3,7 +3,8 @@ ghost use Rattle.std.specs.Prelude.{◌≡◌};
 ghost use Rattle.napi_types.specs.plain.Replies.{plain as plain_reply};
 
 use crate::{
-    AsyncHookId, Call, HandleId, Kind, RefId, ScopeId, Status, TextNo, Ticket, TsfnId, WorkId,
+    AsyncHookId, Call, DeferredId, HandleId, Kind, RefId, ScopeId, Status, TextNo, Ticket, TsfnId,
+    WorkId,
 };
 use std::alloc::{AllocError, AllocFailed};
 use std::error::Error;
@@ -91,6 +92,8 @@ pub enum Out {
     Scope(ScopeId),
     Ref(RefId),
     AsyncHook(AsyncHookId),
+    /// A new deferred, and the handle of its promise.
+    Promise(DeferredId, HandleId),
     Work(WorkId),
     Function(TsfnId),
     Signed(i64),

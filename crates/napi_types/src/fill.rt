@@ -1,9 +1,10 @@
 //! How an operation of a script is filled from registers, and what a register keeps of its result.
-ghost use Rattle.std.specs.Prelude.{◌≡◌, option_map, option_to_list};
-ghost use Rattle.napi_types.specs.scripts.Registers.{register_at as number_in_register, handle_in, arguments_in, operation_ask, result_registers, register_values};
+ghost use Rattle.std.specs.Prelude.{◌≡◌, option_map};
+ghost use Rattle.napi_types.specs.scripts.Registers.{register_at as number_in_register, handle_in, arguments_in, operation_ask, one_or_two, result_registers, register_values};
 
 use crate::{
-    Args, Ask, AsyncHookId, Call, HandleId, Op, Out, RefId, Regs, ScopeId, TsfnId, WorkId,
+    Args, Ask, AsyncHookId, Call, DeferredId, HandleId, Op, Out, RefId, Regs, ScopeId, TsfnId,
+    WorkId,
 };
 
 /// The number in a register, 0 past the last one.
@@ -194,6 +195,16 @@ impl Op {
             Op::RemoveAsyncCleanupHook(hook) => Call::RemoveAsyncCleanupHook(AsyncHookId(
                 register_at(regs, hook),
             )),
+            Op::CreatePromise(..) => Call::CreatePromise,
+            Op::ResolveDeferred(deferred, value) => Call::ResolveDeferred(
+                DeferredId(register_at(regs, deferred)),
+                handle_at(regs, value),
+            ),
+            Op::RejectDeferred(deferred, value) => Call::RejectDeferred(
+                DeferredId(register_at(regs, deferred)),
+                handle_at(regs, value),
+            ),
+            Op::IsPromise(value, _) => Call::IsPromise(handle_at(regs, value)),
             Op::CreateAsyncWork(job, entry, payload, _) => Call::CreateAsyncWork(
                 job, entry, payload,
             ),
@@ -245,11 +256,12 @@ impl Op {
         Ask::Do(call)
     }
 
-    /// The register that keeps the result, `None` exactly for an operation that keeps none. No operation keeps its result in more than one.
-    pub fn result_register(&self) -> Option<u8>
-        ensures { option_to_list result ≡ result_registers self.now }
+    /// The registers that keep the result: the first, and the second where there is one. `None` exactly for an operation that keeps none.
+    pub fn result_registers(&self) -> Option<(u8, Option<u8>)>
+        ensures { one_or_two result ≡ result_registers self.now }
     {
         match *self {
+            Op::CreatePromise(deferred, promise) => Some((deferred, Some(promise))),
             Op::GetUndefined(result)
             | Op::GetNull(result)
             | Op::GetGlobal(result)
@@ -299,8 +311,11 @@ impl Op {
             | Op::CreateThreadsafeFunction(_, _, _, _, _, _, result)
             | Op::GetThreadsafeFunctionContext(_, result)
             | Op::GetVersion(result)
-            | Op::Collect(result) => Some(result),
-            Op::Wrap(_, _, _, _, result) | Op::AddFinalizer(_, _, _, _, result) => result,
+            | Op::IsPromise(_, result)
+            | Op::Collect(result) => Some((result, None)),
+            Op::Wrap(_, _, _, _, result) | Op::AddFinalizer(_, _, _, _, result) => {
+                Some((result?, None))
+            }
             Op::SetNamedProperty(..)
             | Op::SetElement(..)
             | Op::CloseHandleScope(_)
@@ -313,6 +328,8 @@ impl Op {
             | Op::AddEnvCleanupHook(..)
             | Op::RemoveEnvCleanupHook(..)
             | Op::RemoveAsyncCleanupHook(_)
+            | Op::ResolveDeferred(..)
+            | Op::RejectDeferred(..)
             | Op::DeleteAsyncWork(_)
             | Op::CancelAsyncWork(_)
             | Op::QueueAsyncWork(_)
@@ -331,26 +348,27 @@ impl Op {
 }
 
 impl Out {
-    /// The number that a register keeps of this result, `None` exactly for a result that is no value of a call. No result is kept as more
-    /// than one number.
+    /// The numbers that registers keep of this result: the first, and the second where there is one. `None` exactly for a result that is
+    /// no value of a call.
     ///
     /// A signed number is kept modulo 2^64, a flag as 0 or 1, no handle as 0, and everything else by its number.
-    pub fn register_value(&self) -> Option<u64>
-        ensures { option_to_list result ≡ register_values self.now }
+    pub fn register_values(&self) -> Option<(u64, Option<u64>)>
+        ensures { one_or_two result ≡ register_values self.now }
     {
         match *self {
-            Out::Handle(HandleId(number)) => Some(number),
-            Out::NoHandle => Some(0),
-            Out::Scope(ScopeId(number)) => Some(number),
-            Out::Ref(reference) => Some(reference.0),
-            Out::AsyncHook(hook) => Some(hook.0),
-            Out::Work(work) => Some(work.0),
-            Out::Function(function) => Some(function.0),
-            Out::Signed(number) => Some(number.cast_unsigned()),
-            Out::Unsigned(number) => Some(number),
-            Out::Flag(flag) => Some(flag as u64),
-            Out::Text(text) => Some(text.0 as u64),
-            Out::Kind(kind) => Some(kind.number() as u64),
+            Out::Promise(deferred, promise) => Some((deferred.0, Some(promise.0))),
+            Out::Handle(HandleId(number)) => Some((number, None)),
+            Out::NoHandle => Some((0, None)),
+            Out::Scope(ScopeId(number)) => Some((number, None)),
+            Out::Ref(reference) => Some((reference.0, None)),
+            Out::AsyncHook(hook) => Some((hook.0, None)),
+            Out::Work(work) => Some((work.0, None)),
+            Out::Function(function) => Some((function.0, None)),
+            Out::Signed(number) => Some((number.cast_unsigned(), None)),
+            Out::Unsigned(number) => Some((number, None)),
+            Out::Flag(flag) => Some((flag as u64, None)),
+            Out::Text(text) => Some((text.0 as u64, None)),
+            Out::Kind(kind) => Some((kind.number() as u64, None)),
             _ => None,
         }
     }

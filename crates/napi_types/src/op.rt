@@ -74,6 +74,11 @@ pub enum Op {
     RemoveEnvCleanupHook(u32, u64),
     AddAsyncCleanupHook(u32, u64, u8),
     RemoveAsyncCleanupHook(u8),
+    /// Two registers keep the result: the first the deferred, the second the handle of the promise.
+    CreatePromise(u8, u8),
+    ResolveDeferred(u8, u8),
+    RejectDeferred(u8, u8),
+    IsPromise(u8, u8),
     CreateAsyncWork(JobSpec, u32, u64, u8),
     DeleteAsyncWork(u8),
     CancelAsyncWork(u8),

@@ -33,6 +33,7 @@ use Rattle.napi_types.specs.parts.Frames.{caller_of}
 use Rattle.napi_types.specs.parts.Heap.{handle_value}
 use Rattle.napi_types.specs.parts.Hooks.{Hook, hook_ticket}
 use Rattle.napi_types.specs.parts.InstanceData.{instance_ticket}
+use Rattle.napi_types.specs.parts.Promises.{deferred_promise}
 use Rattle.napi_types.specs.parts.References.{referred_value}
 use Rattle.napi_types.specs.environment.Calls.{effect, answer, answer_unless_deep}
 use Rattle.napi_types.specs.environment.Changes.{is_fresh_result}
@@ -41,6 +42,7 @@ use Rattle.napi_types.specs.environment.Entering.{enter_change, asked_change}
 use Rattle.napi_types.specs.environment.Environment.{Environment}
 use Rattle.napi_types.specs.environment.HookCalls.{unhooked}
 use Rattle.napi_types.specs.environment.Hooked.{is_from_finals_on, StandsWhileSet, IsForHook}
+use Rattle.napi_types.specs.environment.PromiseCalls.{settling, resolved, rejected}
 use Rattle.napi_types.specs.environment.ReferenceCalls.{value_told, counted_up}
 use Rattle.napi_types.specs.environment.Refusals.{group_refusal, refusal_by_state, refusal_before_depth, depth_refusal, refusal}
 use Rattle.napi_types.specs.environment.Moments.{refusal_by_moment}
@@ -162,6 +164,10 @@ module _ (e : Environment) where
   value-rests None = refl
   value-rests (Some v) = refl
 
+  settling-rests : (n v state : ℕ) (p : Option ℕ) → Rests e (settling e n v state p)
+  settling-rests n v state None = refl
+  settling-rests n v state (Some p) = refl
+
 withdrawn-rests : (e : Environment) (t : Option ℕ) (a : Answer Environment) → Rests e a → Rests e (withdrawing t a)
 withdrawn-rests e None a same = same
 withdrawn-rests e (Some n) a same = same
@@ -189,6 +195,8 @@ effect-rests e (call.RemoveEnvCleanupHook entry argument) n plain lasting =
     withdrawn-rests e (registered_only e.book (hook_ticket (caller_of e.frames) entry argument e.hooks)) _ refl
 effect-rests e (call.AddAsyncCleanupHook entry argument) n plain lasting = absurd (plain entry argument refl)
 effect-rests e (call.RemoveAsyncCleanupHook hook) n plain lasting = absurd (lasting hook refl)
+effect-rests e (call.ResolveDeferred d v) n plain lasting = settling-rests e d.0 (handle_value e.heap v.0) resolved (deferred_promise e.promises d.0)
+effect-rests e (call.RejectDeferred d v) n plain lasting = settling-rests e d.0 (handle_value e.heap v.0) rejected (deferred_promise e.promises d.0)
 effect-rests e c n plain lasting = refl
 
 abbrev CallStep : Environment → Call → Answer Environment → Type 0

@@ -10,7 +10,7 @@ use Rattle.napi_types.specs.declared.ids.ScopeKind.{ScopeKind}
 use Rattle.napi_types.specs.declared.status.Status.{Status}
 use Rattle.napi_types.specs.declared.status.Status.TheVariants as status
 use Rattle.napi_types.specs.declared.call.CallGroup.{CallGroup}
-use Rattle.napi_types.specs.declared.call.CallGroup.TheVariants.{OnValues, OnProperties, OnFunctions, OnScopes, OnReferences, OnWraps, OnEntering, OnHooks, OnTsfns}
+use Rattle.napi_types.specs.declared.call.CallGroup.TheVariants.{OnValues, OnProperties, OnFunctions, OnScopes, OnReferences, OnWraps, OnEntering, OnHooks, OnPromises, OnTsfns}
 use Rattle.napi_types.specs.plain.CallFacts.{group_of}
 use Rattle.napi_types.specs.plain.Guards.{is_guarded, is_registering}
 use Rattle.napi_types.specs.plain.Lists.{when, unless}
@@ -26,6 +26,7 @@ use Rattle.napi_types.specs.parts.Kinds.{expects, expects_if}
 use Rattle.napi_types.specs.parts.NamedNumbers.{is_known, unknown_refusal}
 use Rattle.napi_types.specs.parts.PropertyCalls.{property_kinds, property_refusal}
 use Rattle.napi_types.specs.parts.ReferenceRefusals.{references_of, unknown_reference, count_refusal, reference_refusal}
+use Rattle.napi_types.specs.parts.Promises.{Promises}
 use Rattle.napi_types.specs.parts.References.{ReferenceMap, has_reference}
 use Rattle.napi_types.specs.parts.ScopeCalls.{scope_refusal}
 use Rattle.napi_types.specs.parts.ScopeRefusals.{has_scope, is_kind, closing, refuses_escape, escapable_scope}
@@ -36,6 +37,7 @@ use Rattle.napi_types.specs.environment.Environment.{Environment}
 use Rattle.napi_types.specs.environment.Groups.{call_group}
 use Rattle.napi_types.specs.environment.HookCalls.{hook_refusal}
 use Rattle.napi_types.specs.environment.Moments.{is_tearing, guard_status, guard_refusal, registering_refusal, refusal_by_moment}
+use Rattle.napi_types.specs.environment.PromiseCalls.{promise_refusal}
 use Rattle.napi_types.specs.environment.ReferenceCalls.{referring_refusal}
 use Rattle.napi_types.specs.environment.Refusals.{group_refusal, refusal_by_state, refusal_before_depth, depth_refusal, refusal}
 use Rattle.napi_types.specs.environment.WrapCalls.{attachment_refusal}
@@ -163,6 +165,11 @@ by-hook e (call.RemoveEnvCleanupHook entry argument) = by-unless _ status.Invali
 by-hook e (call.RemoveAsyncCleanupHook hook) = by-unless _ status.InvalidArg refl
 by-hook e _ = tt
 
+by-promise : (p : Promises) (c : Call) → Refuses (promise_refusal p c)
+by-promise p (call.ResolveDeferred d v) = by-unless _ status.InvalidArg refl
+by-promise p (call.RejectDeferred d v) = by-unless _ status.InvalidArg refl
+by-promise p _ = tt
+
 by-count : (m : ReferenceMap) (c : Call) → Refuses (count_refusal m c)
 by-count m (call.ReferenceRef r) = by-when _ status.GenericFailure refl
 by-count m (call.ReferenceUnref r) = by-when _ status.GenericFailure refl
@@ -180,6 +187,7 @@ by-group : (g : CallGroup) (e : Environment) (c : Call) → Refuses ((call_group
 by-group OnReferences e c = either (referring_refusal e c) (reference_refusal e.references c) (by-referring e c) (by-reference e.references c)
 by-group OnWraps e c = by-attachment e.attachments e.heap c
 by-group OnHooks e c = by-hook e c
+by-group OnPromises e c = by-promise e.promises c
 by-group _ e c = tt
 
 by-depth : (fs : List Frame) (c : Call) → Refuses (depth_refusal fs c)

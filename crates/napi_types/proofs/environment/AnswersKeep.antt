@@ -146,12 +146,13 @@ course-parts old new same = record {
 }
 
 -- what an answer keeps of the environment: all but the heap, the references, what is attached to values, the book and the pending exception. It issues one
--- reference number at most, and changes the book in one of the ways of a call
+-- reference number and one deferred at most, and changes the book in one of the ways of a call
 pub record KeepsBy (old : Environment) (made dropped : Option Duty) (new : Environment) : Type 0 where
   pub course : course_of new ≡ course_of old
   pub frames : new.frames ≡ old.frames
   pub heap : HeapKeeps old.heap new.heap
   pub references : length new.references.issued ≤ length old.references.issued + 1
+  pub deferreds : length new.promises.issued ≤ length old.promises.issued + 1
   pub book : BookStep (caller_of old.frames) old.book made dropped new.book
 
 abbrev pub KeepsTheRest : Environment → Answer Environment → Type 0
@@ -160,12 +161,12 @@ KeepsTheRest old a = KeepsBy old a.reply.made a.reply.dropped a.after
 -- the values, the references and the pending exception are others
 keeps-parts : (e : Environment) (heap : Heap) (m : ReferenceMap) (p : Option ℕ) → HeapKeeps e.heap heap → length m.issued ≤ length e.references.issued + 1
     → KeepsBy e None None (record e { heap = heap; references = m; pending = p })
-keeps-parts e heap m p h issued = record { course = refl; frames = refl; heap = h; references = issued; book = stays e.book refl }
+keeps-parts e heap m p h issued = record { course = refl; frames = refl; heap = h; references = issued; deferreds = omega arith; book = stays e.book refl }
 
 -- the book changes
 keeps-book : {made dropped : Option Duty} (e : Environment) (book : Book) (hooks : List Hook) (others : List AsyncHook)
     → BookStep (caller_of e.frames) e.book made dropped book → KeepsBy e made dropped (record e { book = book; hooks = hooks; async_hooks = others })
-keeps-book e book hooks others step = record { course = refl; frames = refl; heap = same e.heap; references = omega arith; book = step }
+keeps-book e book hooks others step = record { course = refl; frames = refl; heap = same e.heap; references = omega arith; deferreds = omega arith; book = step }
 
 thrown-keeps : (heap : Heap) (code : Option TextNo) (message : TextNo) → HeapKeeps heap (with_thrown code message heap)
 thrown-keeps heap None message = in-scopes-made heap _ refl (omega arith) (omega arith) (omega arith)
@@ -184,7 +185,23 @@ does-keeps c e _ none (does.refers n h count) = keeps-parts e _ _ _ (same e.heap
 does-keeps c e _ none (does.deletes r) = keeps-parts e _ _ _ (same e.heap) (omega arith)
 does-keeps c e _ none (does.counts r count) = keeps-parts e _ _ _ (same e.heap) (omega arith)
 does-keeps c e _ none does.collects =
-    record { course = refl; frames = refl; heap = in-scopes e.heap _ refl (omega arith) (omega arith) refl; references = omega arith; book = collects _ _ refl }
+    record { course = refl; frames = refl; heap = in-scopes e.heap _ refl (omega arith) (omega arith) refl; references = omega arith; deferreds = omega arith; book = collects _ _ refl }
+does-keeps c e _ none (does.promises n) = record {
+  course = refl;
+  frames = refl;
+  heap = handled e.heap _ _ refl refl refl (omega arith);
+  references = omega arith;
+  deferreds = length-with_record (λ m. m) n e.promises.issued;
+  book = stays e.book refl;
+}
+does-keeps c e _ none (does.settles n h state p is) = record {
+  course = refl;
+  frames = refl;
+  heap = in-scopes e.heap _ refl (omega arith) (omega arith) refl;
+  references = omega arith;
+  deferreds = omega arith;
+  book = stays e.book refl;
+}
 does-keeps c e _ none (does.adds_hook entry argument) = keeps-book e _ _ _ (adds _ _ refl refl (λ h. cc) refl)
 does-keeps c e _ none (does.removes_hook entry argument) =
     let o : Option ℕ = hook_ticket (caller_of e.frames) entry argument e.hooks in
@@ -197,16 +214,16 @@ does-keeps c e _ none (does.removes_async number) =
     registered-by e.book o (λ t. KeepsTheRest e (withdrawing t (accepts out.Nothing left))) (keeps-book e _ _ _ (stays e.book refl))
     (λ t here is. keeps-book e _ _ _ (drops t _ is refl))
 does-keeps c e _ none (does.withdraws t on is) = keeps-book e _ _ _ (drops t _ is refl)
-does-keeps c e _ none (does.asks_exit is) = record { course = refl; frames = refl; heap = same e.heap; references = omega arith; book = stays e.book refl }
+does-keeps c e _ none (does.asks_exit is) = record { course = refl; frames = refl; heap = same e.heap; references = omega arith; deferreds = omega arith; book = stays e.book refl }
 does-keeps c e _ none (does.registers {d} payload entry hint before step) =
     let k : KeepsBy e _ _ d = does-keeps c e d none before in
-    record { course = k.course; frames = k.frames; heap = k.heap; references = k.references; book = step }
+    record { course = k.course; frames = k.frames; heap = k.heap; references = k.references; deferreds = k.deferreds; book = step }
 does-keeps c e _ none (does.attaches {d} before on) =
     let k : KeepsBy e _ _ d = does-keeps c e d none before in
-    record { course = k.course; frames = k.frames; heap = k.heap; references = k.references; book = k.book }
+    record { course = k.course; frames = k.frames; heap = k.heap; references = k.references; deferreds = k.deferreds; book = k.book }
 does-keeps c e _ none (does.sets {d} i before on) =
     let k : KeepsBy e _ _ d = does-keeps c e d none before in
-    record { course = k.course; frames = k.frames; heap = k.heap; references = k.references; book = k.book }
+    record { course = k.course; frames = k.frames; heap = k.heap; references = k.references; deferreds = k.deferreds; book = k.book }
 
 -- a call that nothing refuses early is not refused by what it reads in the heap
 unrefused : (e : Environment) (c : Call) → refusal_before_depth e c ≡ None → refusal_in e.texts e.heap c ≡ None
@@ -263,6 +280,7 @@ pub record KeepsButAsk (c : Call) (old : Environment) (r : Reply) (new : Environ
   pub local : length (local_frames new.frames) ≡ length (local_frames old.frames)
   pub heap : HeapKeeps old.heap new.heap
   pub references : length new.references.issued ≤ length old.references.issued + 1
+  pub deferreds : length new.promises.issued ≤ length old.promises.issued + 1
   pub book : BookStep (caller_of old.frames) old.book r.made r.dropped new.book
   pub makes : MakesFor c r.made
 
@@ -282,6 +300,7 @@ call_change-keeps e c n = record {
   local = local-counted (answer e c n).after.frames ∙ ap (λ fs. length (local_frames fs)) (answer-keeps e c n).frames;
   heap = (answer-keeps e c n).heap;
   references = (answer-keeps e c n).references;
+  deferreds = (answer-keeps e c n).deferreds;
   book = (answer-keeps e c n).book;
   makes = answer-makes e c n;
 }

@@ -16,6 +16,7 @@ use Rattle.napi_types.specs.parts.Frames.{Frame, caller_of}
 use Rattle.napi_types.specs.parts.Heap.{Heap}
 use Rattle.napi_types.specs.parts.Hooks.{Hook, hook_ticket}
 use Rattle.napi_types.specs.parts.InstanceData.{Instances}
+use Rattle.napi_types.specs.parts.Promises.{Promises}
 use Rattle.napi_types.specs.parts.References.{ReferenceMap}
 use Rattle.napi_types.specs.environment.Calls.{effect, answer}
 use Rattle.napi_types.specs.environment.Changes.{call_change}
@@ -38,6 +39,7 @@ pub data Changed (c : Call) (e : Environment) : Environment → Type 0 where
   book : (d : Environment) (b : Book) → Changed c e d → Changed c e (record d { book = b })
   hooks : (d : Environment) (hs : List Hook) → Changed c e d → Changed c e (record d { hooks = hs })
   async_hooks : (d : Environment) (hs : List AsyncHook) → Changed c e d → Changed c e (record d { async_hooks = hs })
+  promises : (d : Environment) (p : Promises) → Changed c e d → Changed c e (record d { promises = p })
   instances : (d : Environment) (i : Instances) → Changed c e d → Changed c e (record d { instances = i })
   pending : (d : Environment) (p : Option ℕ) → Changed c e d → Changed c e (record d { pending = p })
   last : (d : Environment) (s : Status) → Changed c e d → Changed c e (record d { last = s })
@@ -52,6 +54,7 @@ pub record Ignores {A : Type 0} (f : Environment → A) : Type 0 where
   pub book : (d : Environment) (b : Book) → f (record d { book = b }) ≡ f d
   pub hooks : (d : Environment) (hs : List Hook) → f (record d { hooks = hs }) ≡ f d
   pub async_hooks : (d : Environment) (hs : List AsyncHook) → f (record d { async_hooks = hs }) ≡ f d
+  pub promises : (d : Environment) (p : Promises) → f (record d { promises = p }) ≡ f d
   pub instances : (d : Environment) (i : Instances) → f (record d { instances = i }) ≡ f d
   pub pending : (d : Environment) (p : Option ℕ) → f (record d { pending = p }) ≡ f d
   pub last : (d : Environment) (s : Status) → f (record d { last = s }) ≡ f d
@@ -67,6 +70,7 @@ changed-keeps f c e _ i x (attachments d a r) = i.attachments d a ∙ changed-ke
 changed-keeps f c e _ i x (book d b r) = i.book d b ∙ changed-keeps f c e d i x r
 changed-keeps f c e _ i x (hooks d hs r) = i.hooks d hs ∙ changed-keeps f c e d i x r
 changed-keeps f c e _ i x (async_hooks d hs r) = i.async_hooks d hs ∙ changed-keeps f c e d i x r
+changed-keeps f c e _ i x (promises d p r) = i.promises d p ∙ changed-keeps f c e d i x r
 changed-keeps f c e _ i x (instances d j r) = i.instances d j ∙ changed-keeps f c e d i x r
 changed-keeps f c e _ i x (pending d p r) = i.pending d p ∙ changed-keeps f c e d i x r
 changed-keeps f c e _ i x (last d s r) = i.last d s ∙ changed-keeps f c e d i x r
@@ -85,8 +89,11 @@ does-changed c e _ (does.refers n h count) = references e _ stays
 does-changed c e _ (does.deletes r) = references e _ stays
 does-changed c e _ (does.counts r count) = references e _ stays
 does-changed c e _ does.collects =
-    book (record e { heap = _; references = _; attachments = _ }) _
-    (attachments (record e { heap = _; references = _ }) _ (references (record e { heap = _ }) _ (heap e _ stays)))
+    promises (record e { heap = _; references = _; attachments = _; book = _ }) _
+    (book (record e { heap = _; references = _; attachments = _ }) _
+    (attachments (record e { heap = _; references = _ }) _ (references (record e { heap = _ }) _ (heap e _ stays))))
+does-changed c e _ (does.promises n) = promises (record e { heap = _ }) _ (heap e _ stays)
+does-changed c e _ (does.settles n h state p is) = promises (record e { heap = _ }) _ (heap e _ stays)
 does-changed c e _ (does.adds_hook entry argument) = book (record e { hooks = _ }) _ (hooks e _ stays)
 does-changed c e _ (does.removes_hook entry argument) =
     let t : Option ℕ = hook_ticket (caller_of e.frames) entry argument e.hooks in

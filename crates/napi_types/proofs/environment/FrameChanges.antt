@@ -34,6 +34,7 @@ pub record HasRegistry (r : Registry) (e : Environment) : Type 0 where
   pub hooks : e.hooks ≡ r.hooks
   pub async_hooks : e.async_hooks ≡ r.async_hooks
   pub instances : e.instances ≡ r.instances
+  pub promises : e.promises ≡ r.promises
 
 pub registry-parts : (r : Registry) (e : Environment) → registry_of e ≡ r → HasRegistry r e
 registry-parts r e same = record {
@@ -42,6 +43,7 @@ registry-parts r e same = record {
   hooks = ap (λ (s : Registry). s.hooks) same;
   async_hooks = ap (λ (s : Registry). s.async_hooks) same;
   instances = ap (λ (s : Registry). s.instances) same;
+  promises = ap (λ (s : Registry). s.promises) same;
 }
 
 -- THE END OF A FRAME

@@ -24,8 +24,10 @@ use Rattle.napi_types.specs.parts.AsyncHooks.{AsyncHook, HookState, Set, is_set,
 use Rattle.napi_types.specs.parts.Attachments.{Attachments, is_attached_to, left_on}
 use Rattle.napi_types.specs.parts.Book.{Book, Registration, registration_at, is_at, is_registered, is_owed, made_due, made_withdrawn, moved, moved_at, due_where, new_ticket, with_registration, begun_in, may_begin_in, cause_at}
 use Rattle.napi_types.specs.parts.Frames.{caller_of, cause_of, duty_of}
+use Rattle.napi_types.specs.parts.Heap.{handle_value}
 use Rattle.napi_types.specs.parts.Hooks.{Hook, is_hook, hook_ticket, last_hook, without_hook}
 use Rattle.napi_types.specs.parts.InstanceData.{InstanceData, Instances, instance_ticket}
+use Rattle.napi_types.specs.parts.Promises.{Promises, promises_left, with_settled}
 use Rattle.napi_types.specs.environment.Calls.{effect, answer}
 use Rattle.napi_types.specs.environment.Changes.{opening_change, init_change, call_change, is_fresh_result, with_none_waiting, book_in, in_phase, gone_change}
 use Rattle.napi_types.specs.environment.Collection.{collected, is_freed}
@@ -34,6 +36,7 @@ use Rattle.napi_types.specs.environment.Entering.{enter_change, asked_change}
 use Rattle.napi_types.specs.environment.Environment.{Environment, OpenedWith, new_environment}
 use Rattle.napi_types.specs.environment.HookCalls.{hook_registration, hooking, async_hooking, unhooked, unhooking, async_unhooking}
 use Rattle.napi_types.specs.environment.Hooked.{is_from_finals_on, StandsIn, HasFinalizer, IsForHook, StandsWhileSet, HasItsNumber, AsyncHooksAgree, IsHooked}
+use Rattle.napi_types.specs.environment.PromiseCalls.{promising, with_promises, with_settler}
 use Rattle.napi_types.specs.environment.Registering.{finalizer_of, withdrawing}
 use Rattle.napi_types.specs.environment.Registry.{registry_of}
 use Rattle.napi_types.specs.environment.Roots.{reach}
@@ -123,6 +126,9 @@ hooked-attachments e a on h = hooked-by (record e { attachments = a }) (listed e
 
 hooked-instances : (e : Environment) (is : Instances) → All (HasFinalizer e.book) is → IsHooked e → IsHooked (record e { instances = is })
 hooked-instances e is all h = hooked-by (record e { instances = is }) (listed e h) (attached e h) all h.async
+
+hooked-promises : (e : Environment) (p : Promises) → IsHooked e → IsHooked (record e { promises = p })
+hooked-promises e p h = hooked-by (record e { promises = p }) (listed e h) (attached e h) h.instances h.async
 
 -- FINALIZERS OF CALLS
 -- what is attached changes in one place
@@ -292,8 +298,10 @@ collected-hooked e alive h =
     let finalizers : (n : ℕ) → is_attached_to freed e.attachments n ≡ true → Finalizes e.book n = tickets_where-holds (Finalizes e.book) e.attachments
     (attached e h) freed in
     let fallen : IsHooked due = hooked-book e _ (finalizers-go e.phase (moved made_due) (λ r. refl) (is_attached_to freed e.attachments) e.book finalizers) h in
+    let left : Environment = record due { attachments = left_on freed e.attachments } in
     unchanged _ (collected alive e) refl refl
-    (hooked-attachments due (left_on freed e.attachments) (HoldsAttached-left_on (Finalizes due.book) freed e.attachments (attached due fallen)) fallen)
+    (hooked-promises left (promises_left freed e.promises)
+    (hooked-attachments due (left_on freed e.attachments) (HoldsAttached-left_on (Finalizes due.book) freed e.attachments (attached due fallen)) fallen))
 
 -- EVERY CALL
 -- most calls change nothing of it. One that adds an asynchronous hook needs a number that is new
@@ -301,6 +309,10 @@ does-hooked : (c : Call) (e : Environment) {made dropped : Option Duty} (d : Env
     → ((entry argument : ℕ) → c ≡ call.AddAsyncCleanupHook entry argument → ⊥)
     → Effect c e made dropped d → IsHooked e → IsHooked d
 does-hooked c e _ other does.collects h = collected-hooked e (reach e) h
+does-hooked c e _ other (does.promises n) h = unchanged (record e { promises = _ }) (promising e n).after refl refl (hooked-promises e _ h)
+does-hooked c e _ other (does.settles n v state p is) h =
+    unchanged (record e { promises = _ }) (with_promises (with_settler p (handle_value e.heap v) e.heap) (with_settled n p state e.promises) e) refl refl
+    (hooked-promises e (with_settled n p state e.promises) h)
 does-hooked c e _ other (does.adds_hook entry argument) h = hooking-hooked e (caller_of e.frames) entry argument h
 does-hooked c e _ other (does.removes_hook entry argument) h = removing-hooked e entry argument h
 does-hooked c e _ other (does.adds_async entry argument n is) h = absurd (other entry argument is)

@@ -19,7 +19,7 @@ use Rattle.napi_types.specs.declared.entry.Cause.TheVariants as cause
 use Rattle.napi_types.specs.plain.Lists.{tail, has_number}
 use Rattle.napi_types.specs.plain.Replies.{accepts}
 use Rattle.napi_types.specs.parts.AsyncHooks.{set_ticket, with_removed}
-use Rattle.napi_types.specs.parts.Bodies.{is_function, function_addon, text_of}
+use Rattle.napi_types.specs.parts.Bodies.{promise_tag, is_function, function_addon, text_of}
 use Rattle.napi_types.specs.parts.Book.{Registration, registration_at, due_info}
 use Rattle.napi_types.specs.parts.Frames.{Frame, frame_of, frame_of_duty, caller_of, ask_counted, asks_made, most_asks}
 use Rattle.napi_types.specs.parts.FunctionCalls.{callee_of}
@@ -32,7 +32,7 @@ use Rattle.napi_types.specs.parts.NamedNumbers.{unknown_refusal}
 use Rattle.napi_types.specs.parts.NewValues.{made_after, list_of, thrown_strings, thrown_of}
 use Rattle.napi_types.specs.parts.Properties.{Property}
 use Rattle.napi_types.specs.parts.PropertyCalls.{names_of}
-use Rattle.napi_types.specs.parts.Values.{Value, fresh_value, starting_values, value_changed, body_of, those_of}
+use Rattle.napi_types.specs.parts.Values.{Value, fresh_value, linked_value, starting_values, value_changed, body_of, those_of}
 use Rattle.napi_types.specs.environment.Asks.{AsksWithin}
 use Rattle.napi_types.specs.environment.Calls.{effect, answer}
 use Rattle.napi_types.specs.environment.Changes.{call_change, init_change, in_phase}
@@ -154,6 +154,9 @@ does-owned : (n : ℕ) (c : Call) (e : Environment) {made dropped : Option Duty}
 does-owned n c e _ there all (does.tells k) = heap-owned n (caller_of e.frames) e.heap c k there all
 does-owned n c e _ there all (does.makes payload) = one-more n _ _ e.heap.values all (no-function n (body.External payload) refl)
 does-owned n c e _ there all (does.raises code message) = thrown-owned n e.heap code message all
+does-owned n c e _ there all (does.promises k) =
+    All-push (IsOurValue n) e.heap.values (linked_value (e.heap.made + 1) promise_tag None) all (no-function n (body.Linked promise_tag None) refl)
+does-owned n c e _ there all (does.settles k h state p is) = changed-owned n p _ e.heap.values (λ x. refl) all
 does-owned n c e _ there all does.collects = kept-owned n (reach e) e.heap.values all
 does-owned n c e _ there all (does.removes_hook entry argument) =
     let t : Option ℕ = hook_ticket (caller_of e.frames) entry argument e.hooks in

@@ -17,9 +17,11 @@ use Rattle.napi_types.specs.parts.Frames.{caller_of}
 use Rattle.napi_types.specs.parts.Heap.{handle_value}
 use Rattle.napi_types.specs.parts.Hooks.{hook_ticket}
 use Rattle.napi_types.specs.parts.InstanceData.{instance_ticket}
+use Rattle.napi_types.specs.parts.Promises.{deferred_promise}
 use Rattle.napi_types.specs.parts.References.{referred_value}
 use Rattle.napi_types.specs.environment.Calls.{effect, answer}
 use Rattle.napi_types.specs.environment.Environment.{Environment}
+use Rattle.napi_types.specs.environment.PromiseCalls.{settling, resolved, rejected}
 use Rattle.napi_types.specs.environment.ReferenceCalls.{value_told, counted_up}
 use Rattle.napi_types.specs.environment.Registering.{finalizer_of, registering, registered_only, withdrawing}
 use Rattle.napi_types.specs.environment.WrapCalls.{referring_if}
@@ -76,6 +78,10 @@ module _ (c : Call) where
   value-told e None = told_plain _ refl refl refl
   value-told e (Some v) = told_plain _ refl refl refl
 
+  settling-told : (e : Environment) (n v state : ℕ) (p : Option ℕ) → MayReply c (settling e n v state p).reply
+  settling-told e n v state None = told_plain _ refl refl refl
+  settling-told e n v state (Some p) = told_plain _ refl refl refl
+
 pub effect-told : (e : Environment) (c : Call) (n : ℕ) → MayReply c (effect e c n).reply
 effect-told e (call.ReferenceRef r) n = counted-told _ r.0 e (referred_value e.references r.0)
 effect-told e (call.GetReferenceValue r) n = value-told _ e (referred_value e.references r.0)
@@ -99,6 +105,8 @@ effect-told e (call.RemoveEnvCleanupHook entry argument) n =
 effect-told e (call.AddAsyncCleanupHook entry argument) n = registering-told _ _ _ refl (omega arith) refl
 effect-told e (call.RemoveAsyncCleanupHook hook) n =
     withdrawing-told _ (registered_only e.book (set_ticket hook.0 e.async_hooks)) _ refl refl (told_plain _ refl refl refl)
+effect-told e (call.ResolveDeferred d v) n = settling-told _ e d.0 (handle_value e.heap v.0) resolved (deferred_promise e.promises d.0)
+effect-told e (call.RejectDeferred d v) n = settling-told _ e d.0 (handle_value e.heap v.0) rejected (deferred_promise e.promises d.0)
 effect-told e c n = told_plain _ refl refl refl
 
 pub answer-told : (e : Environment) (c : Call) (n : ℕ) → MayReply c (answer e c n).reply

@@ -56,6 +56,7 @@ abbrev pub issued_number : Out → ℕ
 issued_number (out.Scope s) = s.0
 issued_number (out.Ref r) = r.0
 issued_number (out.AsyncHook h) = h.0
+issued_number (out.Promise d h) = d.0
 issued_number _ = 0
 
 -- a number that the environment chooses is above 0 and was never issued
@@ -63,6 +64,7 @@ abbrev pub is_fresh_result : Environment → Out → Bool
 is_fresh_result e (out.Scope s) = not (has_number s.0 (0 ∷ e.heap.scope_numbers))
 is_fresh_result e (out.Ref r) = not (has_number r.0 (0 ∷ e.references.issued))
 is_fresh_result e (out.AsyncHook h) = not (has_number h.0 (0 ∷ map (λ x. x.number) e.async_hooks))
+is_fresh_result e (out.Promise d h) = not (has_number d.0 (0 ∷ e.promises.issued))
 is_fresh_result e _ = true
 
 -- whether the innermost frame may make a further ask

@@ -12,6 +12,7 @@ use Rattle.napi_types.specs.parts.Frames.{Frame}
 use Rattle.napi_types.specs.parts.Heap.{Heap, new_heap}
 use Rattle.napi_types.specs.parts.Hooks.{Hook}
 use Rattle.napi_types.specs.parts.InstanceData.{Instances}
+use Rattle.napi_types.specs.parts.Promises.{Promises, no_promises}
 use Rattle.napi_types.specs.parts.References.{ReferenceMap, no_references}
 
 -- the value that a thread-safe function keeps alive
@@ -45,6 +46,8 @@ pub record Environment : Type 0 where
   pub hooks : List Hook
   pub async_hooks : List AsyncHook
   pub instances : Instances
+  -- the promises, their deferreds and their reactions
+  pub promises : Promises
   -- the values that thread-safe functions keep alive until they finish
   pub tsfn_roots : List TsfnRoot
   -- the creation number of the value that is the pending exception, where one is pending
@@ -77,6 +80,7 @@ new_environment given = record {
   hooks = [];
   async_hooks = [];
   instances = replicate given.addons None;
+  promises = no_promises;
   tsfn_roots = [];
   pending = None;
   last = status.Ok;

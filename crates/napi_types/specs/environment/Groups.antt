@@ -2,7 +2,7 @@
 use Rattle.std.specs.Prelude.{option_map}
 use Rattle.napi_types.specs.declared.call.Call.{Call}
 use Rattle.napi_types.specs.declared.call.CallGroup.{CallGroup}
-use Rattle.napi_types.specs.declared.call.CallGroup.TheVariants.{OnFunctions, OnReferences, OnWraps, OnExternals, OnExceptions, OnInstances, OnHooks, OnCollection, OnExit}
+use Rattle.napi_types.specs.declared.call.CallGroup.TheVariants.{OnFunctions, OnReferences, OnWraps, OnExternals, OnExceptions, OnInstances, OnHooks, OnPromises, OnCollection, OnExit}
 use Rattle.napi_types.specs.plain.CallFacts.{group_of}
 use Rattle.napi_types.specs.parts.Frames.{caller_of}
 use Rattle.napi_types.specs.parts.FunctionCalls.{on_functions}
@@ -14,6 +14,7 @@ use Rattle.napi_types.specs.environment.ExternalCalls.{external_calls}
 use Rattle.napi_types.specs.environment.Group.{Group, answering, from_heap}
 use Rattle.napi_types.specs.environment.HookCalls.{hook_calls}
 use Rattle.napi_types.specs.environment.InstanceCalls.{instance_calls}
+use Rattle.napi_types.specs.environment.PromiseCalls.{promise_calls}
 use Rattle.napi_types.specs.environment.ReferenceCalls.{reference_calls}
 use Rattle.napi_types.specs.environment.RunCalls.{run_calls}
 use Rattle.napi_types.specs.environment.WrapCalls.{wrap_calls}
@@ -28,6 +29,7 @@ call_group OnExternals = external_calls
 call_group OnExceptions = exception_calls
 call_group OnInstances = instance_calls
 call_group OnHooks = hook_calls
+call_group OnPromises = promise_calls
 call_group OnCollection = collecting_calls
 call_group OnExit = run_calls
 call_group g = from_heap (heap_group g)

@@ -61,6 +61,14 @@ abbrev pub is_linked : Body → Bool
 is_linked (body.Linked tag to) = true
 is_linked _ = false
 
+-- a promise is a linked value with the tag 1, whose child is the value that settled it
+abbrev pub promise_tag : ℕ
+promise_tag = 1
+
+abbrev pub is_promise_body : Body → Bool
+is_promise_body (body.Linked tag to) = tag == promise_tag
+is_promise_body _ = false
+
 -- the child that a body names, by its number: that of a value that is to be made. The body of a value that is there names none, its child stands beside the body
 abbrev pub child_of : Body → Option ℕ
 child_of (body.Linked tag to) = option_map (λ v. v.0) to

@@ -1,5 +1,5 @@
 -- What calls make of a heap.
-use Rattle.std.specs.Prelude.{ℕ, ◌+◌, List, [], ◌∷◌, ◌++◌, length, Option}
+use Rattle.std.specs.Prelude.{ℕ, ◌+◌, List, [], ◌∷◌, ◌++◌, length, Option, None}
 use Rattle.napi_types.specs.declared.body.Body.{Body}
 use Rattle.napi_types.specs.declared.ids.TextNo.{TextNo}
 use Rattle.napi_types.specs.declared.entry.Out.TheVariants as out
@@ -9,7 +9,7 @@ use Rattle.napi_types.specs.parts.Heap.{Heap, handle_value}
 use Rattle.napi_types.specs.parts.NewValues.{list_of, error_of, thrown_of, thrown_strings}
 use Rattle.napi_types.specs.parts.ScopeChanges.{hold_in}
 use Rattle.napi_types.specs.parts.Scopes.{FrameScopes, no_handles}
-use Rattle.napi_types.specs.parts.Values.{Value, fresh_value, value_changed}
+use Rattle.napi_types.specs.parts.Values.{Value, fresh_value, linked_value, value_changed}
 
 -- a new handle of a value in the innermost scope
 abbrev pub with_handle : ℕ → Heap → Heap
@@ -22,6 +22,10 @@ handle_of v heap = accepts (out.Handle (record { 0 = heap.handles + 1 })) (with_
 -- a value with the next creation number
 abbrev pub with_value : Body → Heap → Heap
 with_value b heap = record heap { values = heap.values ++ fresh_value (heap.made + 1) b ∷ []; made = heap.made + 1 }
+
+-- a linked value with the next creation number, of this tag and with no child
+abbrev pub with_linked : ℕ → Heap → Heap
+with_linked tag heap = record heap { values = heap.values ++ linked_value (heap.made + 1) tag None ∷ []; made = heap.made + 1 }
 
 -- a new value and its handle
 abbrev pub new_value : Body → Heap → Answer Heap

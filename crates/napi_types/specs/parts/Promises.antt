@@ -83,6 +83,10 @@ without_reaction ticket p = record p { promises = map (λ (r : Promise). record 
 abbrev pub without_promise : ℕ → Promises → Promises
 without_promise v p = record p { promises = filter (λ r. not (r.value == v)) p.promises; deferreds = filter (λ d. not (d.promise == v)) p.deferreds }
 
+-- the values that pass the test are gone, and with each what it was as a promise
+abbrev pub promises_left : (ℕ → Bool) → Promises → Promises
+promises_left gone p = record p { promises = filter (λ r. not (gone r.value)) p.promises; deferreds = filter (λ d. not (gone d.promise)) p.deferreds }
+
 -- IN THE BOOK
 -- a reaction whose promise is settled is given the new state as its hint, and then falls due
 abbrev pub made_settled : ℕ → Registration → Registration

@@ -9,7 +9,7 @@ use Rattle.napi_types.specs.declared.status.Status.{Status}
 use Rattle.napi_types.specs.declared.status.Status.TheVariants as status
 use Rattle.napi_types.specs.plain.Lists.{unless}
 use Rattle.napi_types.specs.plain.Replies.{Answer, accepts}
-use Rattle.napi_types.specs.parts.Bodies.{kind_of, is_array, is_error_body, signed_of, flag_of, text_of, external_payload, strictly_equal, is_string, is_number, is_bigint, is_boolean, is_external}
+use Rattle.napi_types.specs.parts.Bodies.{kind_of, is_array, is_error_body, is_promise_body, signed_of, flag_of, text_of, external_payload, strictly_equal, is_string, is_number, is_bigint, is_boolean, is_external}
 use Rattle.napi_types.specs.parts.Heap.{Heap, handle_value, handle_body, handle_elements}
 use Rattle.napi_types.specs.parts.HeapChanges.{handle_of, new_value, new_error}
 use Rattle.napi_types.specs.parts.HeapGroup.{HeapGroup}
@@ -32,6 +32,7 @@ on_values heap (call.CreateError code message) = Some (new_error (option_map (λ
 on_values heap (call.Typeof h) = Some (accepts (out.Kind (kind_of (handle_body heap h.0))) heap)
 on_values heap (call.IsArray h) = Some (accepts (out.Flag (is_array (handle_body heap h.0))) heap)
 on_values heap (call.IsError h) = Some (accepts (out.Flag (is_error_body (handle_body heap h.0))) heap)
+on_values heap (call.IsPromise h) = Some (accepts (out.Flag (is_promise_body (handle_body heap h.0))) heap)
 on_values heap (call.GetValueInt64 h) = Some (accepts (out.Signed (signed_of (handle_body heap h.0))) heap)
 on_values heap (call.GetValueBigintInt64 h) = Some (accepts (out.Signed (signed_of (handle_body heap h.0))) heap)
 on_values heap (call.GetValueBool h) = Some (accepts (out.Flag (flag_of (handle_body heap h.0))) heap)

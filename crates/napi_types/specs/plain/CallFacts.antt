@@ -4,7 +4,7 @@ use Rattle.std.specs.Prelude.{◌≡◌, ℕ, ◌+◌, Bool, true, false, List, 
 use Rattle.napi_types.specs.declared.call.Call.{Call}
 use Rattle.napi_types.specs.declared.call.Call.TheVariants as call
 use Rattle.napi_types.specs.declared.call.CallGroup.{CallGroup}
-use Rattle.napi_types.specs.declared.call.CallGroup.TheVariants.{OnValues, OnProperties, OnFunctions, OnScopes, OnReferences, OnWraps, OnExternals, OnEntering, OnExceptions, OnInstances, OnHooks, OnWorks, OnTsfns, OnVersion, OnCollection, OnExit}
+use Rattle.napi_types.specs.declared.call.CallGroup.TheVariants.{OnValues, OnProperties, OnFunctions, OnScopes, OnReferences, OnWraps, OnExternals, OnEntering, OnExceptions, OnInstances, OnHooks, OnPromises, OnWorks, OnTsfns, OnVersion, OnCollection, OnExit}
 use Rattle.napi_types.specs.declared.call.Facts.{Facts}
 use Rattle.napi_types.specs.declared.ids.HandleId.{HandleId}
 use Rattle.napi_types.specs.declared.ids.TextNo.{TextNo}
@@ -113,6 +113,10 @@ facts_of (call.AddEnvCleanupHook _ _) = record (in_group OnHooks) { registers = 
 facts_of (call.RemoveEnvCleanupHook _ _) = in_group OnHooks
 facts_of (call.AddAsyncCleanupHook _ _) = record (in_group OnHooks) { registers = true; grows = true; need = 1 + duty_places }
 facts_of (call.RemoveAsyncCleanupHook _) = in_group OnHooks
+facts_of call.CreatePromise = record (in_group OnPromises) { guarded = true; grows = true }
+facts_of (call.ResolveDeferred _ v) = record (in_group OnPromises) { guarded = true; handles = singleton v.0 }
+facts_of (call.RejectDeferred _ v) = record (in_group OnPromises) { guarded = true; handles = singleton v.0 }
+facts_of (call.IsPromise h) = record (in_group OnValues) { handles = singleton h.0 }
 facts_of (call.CreateAsyncWork _ _ _) = record (in_group OnWorks) { registers = true; grows = true }
 facts_of (call.DeleteAsyncWork _) = in_group OnWorks
 facts_of (call.CancelAsyncWork _) = in_group OnWorks

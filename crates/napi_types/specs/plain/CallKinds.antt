@@ -32,6 +32,7 @@ is_telling (call.GetValueBigintInt64 _) = true
 is_telling (call.GetValueBool _) = true
 is_telling (call.GetValueStringUtf8 _) = true
 is_telling (call.GetValueExternal _) = true
+is_telling (call.IsPromise _) = true
 is_telling _ = false
 
 -- the groups of which values and the handles to them tell all: the calls on values, on properties and elements, and the one that makes a function

@@ -97,6 +97,10 @@ operation_ask (op.AddEnvCleanupHook entry argument) rs = ask.Do (call.AddEnvClea
 operation_ask (op.RemoveEnvCleanupHook entry argument) rs = ask.Do (call.RemoveEnvCleanupHook entry argument)
 operation_ask (op.AddAsyncCleanupHook entry argument w) rs = ask.Do (call.AddAsyncCleanupHook entry argument)
 operation_ask (op.RemoveAsyncCleanupHook hook) rs = ask.Do (call.RemoveAsyncCleanupHook (record { 0 = register_at rs hook }))
+operation_ask (op.CreatePromise deferred w) rs = ask.Do call.CreatePromise
+operation_ask (op.ResolveDeferred deferred value) rs = ask.Do (call.ResolveDeferred (record { 0 = register_at rs deferred }) (handle_in rs value))
+operation_ask (op.RejectDeferred deferred value) rs = ask.Do (call.RejectDeferred (record { 0 = register_at rs deferred }) (handle_in rs value))
+operation_ask (op.IsPromise value w) rs = ask.Do (call.IsPromise (handle_in rs value))
 operation_ask (op.CreateAsyncWork job entry payload w) rs = ask.Do (call.CreateAsyncWork job entry payload)
 operation_ask (op.DeleteAsyncWork work) rs = ask.Do (call.DeleteAsyncWork (record { 0 = register_at rs work }))
 operation_ask (op.CancelAsyncWork work) rs = ask.Do (call.CancelAsyncWork (record { 0 = register_at rs work }))
@@ -115,6 +119,11 @@ operation_ask (op.Return r) rs = ask.Leave (option_map (handle_in rs) r)
 operation_ask (op.ThreadCall f n m) rs = ask.Do (call.CallThreadsafeFunction (record { 0 = f }) n m)
 operation_ask (op.ThreadAcquire f) rs = ask.Do (call.AcquireThreadsafeFunction (record { 0 = f }))
 operation_ask (op.ThreadRelease f m) rs = ask.Do (call.ReleaseThreadsafeFunction (record { 0 = f }) m)
+
+-- a number, and a second one where there is one, as a list
+abbrev pub one_or_two : Option (ℕ × Option ℕ) → List ℕ
+one_or_two None = []
+one_or_two (Some p) = p.0 ∷ option_to_list p.1
 
 -- the registers that keep an operation's result, in the order of its numbers
 abbrev pub result_registers : Op → List ℕ
@@ -165,6 +174,8 @@ result_registers (op.GetAndClearLastException w) = singleton w
 result_registers (op.GetLastErrorInfo w) = singleton w
 result_registers (op.GetInstanceData w) = singleton w
 result_registers (op.AddAsyncCleanupHook _ _ w) = singleton w
+result_registers (op.CreatePromise deferred w) = deferred ∷ singleton w
+result_registers (op.IsPromise _ w) = singleton w
 result_registers (op.CreateAsyncWork _ _ _ w) = singleton w
 result_registers (op.CreateThreadsafeFunction _ _ _ _ _ _ w) = singleton w
 result_registers (op.GetThreadsafeFunctionContext _ w) = singleton w
@@ -184,6 +195,7 @@ register_values out.NoHandle = singleton 0
 register_values (out.Scope s) = singleton s.0
 register_values (out.Ref r) = singleton r.0
 register_values (out.AsyncHook h) = singleton h.0
+register_values (out.Promise d h) = d.0 ∷ singleton h.0
 register_values (out.Work w) = singleton w.0
 register_values (out.Function f) = singleton f.0
 register_values (out.Signed i) = singleton (cast_unsigned w64 i)

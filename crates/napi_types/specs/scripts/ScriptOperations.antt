@@ -35,7 +35,7 @@ abbrev pub operations : List Op
 operations = op.Exit ∷ op.GetUndefined 0 ∷ op.GetNull 0 ∷ op.GetGlobal 0 ∷ op.CreateObject 0 ∷ op.CreateArray 0 ∷ op.OpenHandleScope 0
     ∷ op.OpenEscapableHandleScope 0 ∷ op.IsExceptionPending 0 ∷ op.GetAndClearLastException 0 ∷ op.GetLastErrorInfo 0 ∷ op.GetInstanceData 0
     ∷ op.GetVersion 0 ∷ op.Collect 0 ∷ op.CloseHandleScope 0 ∷ op.CloseEscapableHandleScope 0 ∷ op.DeleteReference 0 ∷ op.Throw 0
-    ∷ op.RemoveAsyncCleanupHook 0 ∷ op.DeleteAsyncWork 0
+    ∷ op.RemoveAsyncCleanupHook 0 ∷ op.CreatePromise 0 0 ∷ op.ResolveDeferred 0 0 ∷ op.RejectDeferred 0 0 ∷ op.IsPromise 0 0 ∷ op.DeleteAsyncWork 0
     ∷ op.CancelAsyncWork 0 ∷ op.QueueAsyncWork 0 ∷ op.AcquireThreadsafeFunction 0 ∷ op.RefThreadsafeFunction 0 ∷ op.UnrefThreadsafeFunction 0
     ∷ op.Return None ∷ op.Typeof 0 0 ∷ op.IsArray 0 0 ∷ op.IsError 0 0 ∷ op.GetValueInt64 0 0 ∷ op.GetValueBigintInt64 0 0 ∷ op.GetValueBool 0 0
     ∷ op.GetValueStringUtf8 0 0 ∷ op.GetValueExternal 0 0 ∷ op.GetArrayLength 0 0 ∷ op.GetPropertyNames 0 0 ∷ op.ReferenceRef 0 0 ∷ op.ReferenceUnref 0 0
@@ -109,6 +109,10 @@ unfoldable pub with_two_registers : Op → ℕ → ℕ → Option Op
 with_two_registers (op.Typeof _ _) x y = Some (op.Typeof x y)
 with_two_registers (op.IsArray _ _) x y = Some (op.IsArray x y)
 with_two_registers (op.IsError _ _) x y = Some (op.IsError x y)
+with_two_registers (op.CreatePromise _ _) x y = Some (op.CreatePromise x y)
+with_two_registers (op.ResolveDeferred _ _) x y = Some (op.ResolveDeferred x y)
+with_two_registers (op.RejectDeferred _ _) x y = Some (op.RejectDeferred x y)
+with_two_registers (op.IsPromise _ _) x y = Some (op.IsPromise x y)
 with_two_registers (op.GetValueInt64 _ _) x y = Some (op.GetValueInt64 x y)
 with_two_registers (op.GetValueBigintInt64 _ _) x y = Some (op.GetValueBigintInt64 x y)
 with_two_registers (op.GetValueBool _ _) x y = Some (op.GetValueBool x y)

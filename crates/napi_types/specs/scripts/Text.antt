@@ -59,6 +59,7 @@ out_text texts out.NoHandle = codes "none"
 out_text texts (out.Scope s) = codes "scope"
 out_text texts (out.Ref r) = codes "ref"
 out_text texts (out.AsyncHook h) = codes "hook"
+out_text texts (out.Promise d h) = codes "promise"
 out_text texts (out.Work w) = codes "work"
 out_text texts (out.Function function) = codes "f" ++ decimal function.0
 out_text texts (out.Signed z) = signed_decimal z
