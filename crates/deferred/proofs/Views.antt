@@ -1,19 +1,29 @@
 -- What the three tables stand for, and what a change of them makes of it.
-use Rattle.std.proofs.Common.{◌≡◌, ◌∙◌, ℕ, suc, ◌+◌, ◌==◌, nat_eq, ◌||◌, Bool, true, false, not, cond, List, [], ◌∷◌, ◌++◌, map, filter, length, Option, Some, None, option_map, is_some, IsSome, IfSome, OnErr, Result, Ok, Err, refl, ap, sym, subst, arith, true≢false}
-use Rattle.std.specs.List.{list_any, All}
-use Rattle.std.specs.Map.{lookup}
+use Rattle.std.proofs.Common.{◌≡◌, ◌∙◌, ℕ, suc, ◌+◌, ◌==◌, nat_eq, ◌||◌, Bool, true, false, not, cond, List, [], ◌∷◌, ◌++◌, map, filter, length, Option, Some, None, option_map, is_some, IsSome, IfSome, OnOk, OnErr, Result, Ok, Err, refl, ap, sym, subst, arith, true≢false}
+use Rattle.std.specs.List.{list_any, All, IsDistinct}
+use Rattle.std.specs.Cmp.{IsEquivalence}
+use Rattle.std.specs.Map.{lookup, keys_of}
 use Rattle.std.specs.Option.{option_and_then, unwrap_or}
 use Rattle.std.proofs.lemmas.Bool.Decides.{nat_tests}
 use Rattle.std.proofs.lemmas.List.Folds.{list_any-append}
-use Rattle.napi_types.specs.plain.Lists.{found, has, has_number, is_empty, with_number, as_map, up_to}
+use Rattle.std.proofs.lemmas.Map.Entries.{option_filter, lookup-filter-values}
+use Rattle.napi_types.specs.plain.Lists.{found, has, has_number, HaveSameNumbers, is_empty, with_number, as_map, up_to}
 use Rattle.napi_types.specs.parts.Promises.{Promise, Deferred, Promises, no_promises, promise_at, promise_state, reactions_of, is_reaction_of, deferred_promise, promise_roots, promise_changed, with_promise, with_settled, with_reaction, without_reaction, without_promise}
-use Rattle.napi_types.proofs.plain.Found.{IsRising, same-self, same-tells, has-found, found-above, found-with_record, found-filter, found-kept, found-map, found-as_map, found-same, rising-with_record, rising-filter, rising-changed, rising-as_map}
+use Rattle.napi_types.proofs.plain.Found.{IsRising, same-self, same-tells, has-found, found-above, found-with_record, found-filter, found-kept, found-map, found-as_map, found-same, rising-with_record, rising-filter, rising-changed, rising-as_map, rising-map}
 use Rattle.napi_types.proofs.plain.Issued.{length-up_to, up_to-more, fresh_number}
 use Rattle.napi_types.proofs.plain.Lists.{any-map}
 use Rattle.deferred.specs.declared.row.PromiseRow.{PromiseRow}
-use Rattle.deferred.specs.PromiseRows.{RowOf, row_of, row_at, settled_row, added_row, taken_row as taken_of, deferred_in, is_deferred_of, reactions_in, promise_in, deferred_as, promises_of, AreTied}
+use Rattle.deferred.specs.KeptPromises.{KeptPromises, AreMaps}
+use Rattle.deferred.specs.PromiseRows.{RowOf, row_of, row_at, settled_row, added_row, taken_row as taken_of, deferred_in, is_deferred_of, reactions_in, promise_in, deferred_as, promises_of, AreTied, is_root_row, root_values}
 use Rattle.deferred.proofs.Numbers.{same-from, equal-tests, without-absent}
 use Rattle.deferred.proofs.Tied.{Forgets, Settles, deferred-tells, tied-forgotten, tied-made, tied-settled, tied-added, tied-taken}
+
+-- the promises of what a caller sees
+pub seen : {a b : KeptPromises} → a ≡ b → a.promises ≡ b.promises
+seen is = ap (λ (k : KeptPromises). k.promises) is
+
+self-same : (n : ℕ) → nat_eq n n ≡ true
+self-same n = grind (arith, nat_tests)
 
 -- WHAT IS FOUND
 module _ {X R : Type 0} (number : R → ℕ) (made : ℕ → X → R) (by : (n : ℕ) (x : X) → number (made n x) ≡ n) where
@@ -62,6 +72,13 @@ issued-up_to rows ds made = refl
 pub promises_of-none : promises_of [] [] 0 ≡ no_promises
 unfolding promises_of
 promises_of-none = refl
+
+-- each is a finite map
+pub maps-of : (rows : List (ℕ × PromiseRow)) (ds : List (ℕ × ℕ)) (made : ℕ) (p : Promises) → promises_of rows ds made ≡ p → AreMaps p
+maps-of rows ds made p is = subst AreMaps is (record {
+  promises = rising-map (λ r. r.value) (promises_of rows ds made).promises (rising-promises rows ds made);
+  deferreds = rising-map (λ d. d.number) (promises_of rows ds made).deferreds (rising-deferreds rows ds made);
+})
 
 -- two with the same promises, deferreds and numbers are equal
 same-promises : (ps qs : List Promise) (ds es : List Deferred) (ms ns : List ℕ) → ps ≡ qs → ds ≡ es → ms ≡ ns
@@ -407,6 +424,51 @@ module _ (rows : List (ℕ × PromiseRow)) (ds ts : List (ℕ × ℕ)) (made : �
       ∙ ap (λ b. b || has_number v (map (λ r. r.value) (filter (λ (r : Promise). not (is_empty r.reactions)) (promises_of rows ds made).promises))) awaited
       ∙ ap (λ b. is_some (deferred_in (row_at v rows)) || b) reacted
 
+-- THE ROOTS OF A TABLE
+-- a value that stands in a table
+has-key : {X : Type 0} (n : ℕ) (es : List (ℕ × X)) → has_number n (map (λ e. e.0) es) ≡ is_some (lookup (nat_eq n) es)
+has-key n [] = refl
+has-key n (e ∷ es) = ap (λ b. b || has_number n (map (λ d. d.0) es)) (equal-tests e.0 n) ∙ by (nat_eq n e.0) (has-key n es)
+  where
+    by : (b : Bool) → has_number n (map (λ d. d.0) es) ≡ is_some (lookup (nat_eq n) es) → (b || has_number n (map (λ d. d.0) es)) ≡ is_some (cond b (Some e.1) (lookup (nat_eq n) es))
+    by true rest = refl
+    by false rest = rest
+
+equal-turned : (x y : ℕ) → nat_eq x y ≡ nat_eq y x
+equal-turned x y = grind (arith, nat_tests)
+
+equal-congr : (x y z : ℕ) → nat_eq x y ≡ true → nat_eq x z ≡ nat_eq y z
+equal-congr x y z is = ap (λ k. nat_eq k z) (same-from x y is)
+
+equal-laws : IsEquivalence nat_eq
+equal-laws = record { refl = self-same; symm = equal-turned; congr = equal-congr }
+
+-- the values that are roots, where none stands twice
+root-listed : (n : ℕ) (rows : List (ℕ × PromiseRow)) → IsDistinct nat_eq (keys_of rows)
+    → has_number n (root_values rows) ≡ (is_some (deferred_in (row_at n rows)) || not (is_empty (reactions_in (row_at n rows))))
+root-listed n rows once =
+    has-key n (filter (λ e. is_root_row (row_of e.1)) rows)
+    ∙ ap is_some (lookup-filter-values equal-laws (λ row. is_root_row (row_of row)) n rows once) ∙ by (lookup (nat_eq n) rows)
+  where
+    there : (b : Bool) (row : PromiseRow) → is_some (cond b (Some row) None) ≡ b
+    there true row = refl
+    there false row = refl
+
+    by : (o : Option PromiseRow) → is_some (option_filter (λ row. is_root_row (row_of row)) o)
+        ≡ (is_some (deferred_in (option_map row_of o)) || not (is_empty (reactions_in (option_map row_of o))))
+    by None = refl
+    by (Some row) = there (is_root_row (row_of row)) row
+
+-- added to others
+pub roots-pushed : (rows : List (ℕ × PromiseRow)) (ds ts : List (ℕ × ℕ)) (made : ℕ) (p : Promises) → promises_of rows ds made ≡ p → AreTied rows ds ts made
+    → (old new : List ℕ) {E : Type 0} (result : Result (Unit {0}) E) → OnOk result (new ≡ old ++ root_values rows) → OnOk result (IsDistinct nat_eq (keys_of rows))
+    → OnOk result (HaveSameNumbers new (old ++ promise_roots p))
+roots-pushed rows ds ts made p view tied old new (Err e) pushed once = tt
+roots-pushed rows ds ts made p view tied old new (Ok x) pushed once = λ n.
+    ap (has_number n) pushed ∙ list_any-append (λ m. m == n) old (root_values rows)
+    ∙ ap (λ b. has_number n old || b) (root-listed n rows once ∙ sym (read-root rows ds ts made tied n) ∙ ap (λ q. has_number n (promise_roots q)) view)
+    ∙ sym (list_any-append (λ m. m == n) old (promise_roots p))
+
 -- OF A TABLE'S ANSWER
 module _ (rows : List (ℕ × PromiseRow)) (ds ts : List (ℕ × ℕ)) (made : ℕ) (p : Promises) (view : promises_of rows ds made ≡ p) where
   pub state-of : (v : ℕ) (o : Option PromiseRow) → o ≡ lookup (nat_eq v) rows → promise_state p v ≡ option_map (λ r. r.state) (option_map row_of o)
@@ -444,9 +506,6 @@ none-of (Some x) is = let never : ⊥ = cc in absurd never
 pub on-err : {A E : Type 0} (r : Result A E) (P : Type 0) → P → OnErr r P
 on-err (Ok x) P holds = tt
 on-err (Err e) P holds = holds
-
-self-same : (n : ℕ) → nat_eq n n ≡ true
-self-same n = grind (arith, nat_tests)
 
 pub gone-here : (v : ℕ) (o : Option RowOf) → cond (nat_eq v v) None o ≡ None
 gone-here v o = ap (λ b. cond b None o) (self-same v)

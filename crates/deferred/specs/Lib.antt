@@ -1,1 +1,2 @@
+pub mod KeptPromises
 pub mod PromiseRows

@@ -1,8 +1,8 @@
 -- How the three tables stand for promises and deferreds.
-use Rattle.std.specs.Prelude.{◌≡◌, ℕ, ◌≤◌, ◌==◌, nat_eq, Bool, true, false, not, List, [], ◌∷◌, ◌++◌, map, filter, Option, Some, None, option_map}
+use Rattle.std.specs.Prelude.{◌≡◌, ℕ, ◌≤◌, ◌==◌, nat_eq, ◌||◌, is_some, Bool, true, false, not, List, [], ◌∷◌, ◌++◌, map, filter, Option, Some, None, option_map}
 use Rattle.std.specs.Map.{lookup}
 use Rattle.std.specs.Option.{unwrap_or, option_and_then, option_map_or}
-use Rattle.napi_types.specs.plain.Lists.{has_number, as_map, up_to}
+use Rattle.napi_types.specs.plain.Lists.{has_number, is_empty, as_map, up_to}
 use Rattle.napi_types.specs.parts.Promises.{Promise, Deferred, Promises}
 use Rattle.deferred.specs.declared.row.PromiseRow.{PromiseRow}
 
@@ -29,6 +29,14 @@ is_deferred_of n row = option_map_or (λ m. m == n) (deferred_in row) false
 
 abbrev pub reactions_in : Option RowOf → List ℕ
 reactions_in row = unwrap_or (option_map (λ r. r.reactions) row) []
+
+-- a promise that is a root: its deferred is not settled, or it has a reaction that has not ended
+abbrev pub is_root_row : RowOf → Bool
+is_root_row r = is_some r.deferred || not (is_empty r.reactions)
+
+-- the values of these, in the order of the rows
+abbrev pub root_values : List (ℕ × PromiseRow) → List ℕ
+root_values rows = map (λ e. e.0) (filter (λ e. is_root_row (row_of e.1)) rows)
 
 -- a row whose promise is settled, has a reaction more, and has one less
 abbrev pub settled_row : ℕ → RowOf → RowOf

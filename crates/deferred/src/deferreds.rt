@@ -1,13 +1,14 @@
 //! Promises by their values, deferreds by their numbers, and reactions by their tickets.
-ghost use Rattle.std.specs.Prelude.{◌≡◌, ◌≤◌, ◌<◌, ◌↔◌, ◌^◌, ◌∷◌, ℕ, Some, None, true, false, IfOk, IfSome, OnOk, OnErr, IsSome, option_map, length, is_none};
+ghost use Rattle.std.specs.Prelude.{◌≡◌, ◌≤◌, ◌<◌, ◌↔◌, ◌^◌, ◌∷◌, ◌++◌, ℕ, map, Some, None, true, false, IfOk, IfSome, OnOk, OnErr, IsSome, option_map, length, is_none};
 ghost use Rattle.std.specs.List.{All};
 ghost use Rattle.std.specs.Result.{result_err};
 ghost use Rattle.napi_types.specs.declared.status.Status.TheVariants as status;
-ghost use Rattle.napi_types.specs.plain.Lists.{has_number, when};
+ghost use Rattle.napi_types.specs.plain.Lists.{has_number, HaveSameNumbers, when};
 ghost use Rattle.napi_types.specs.parts.Book.{is_registered, is_at};
 ghost use Rattle.napi_types.specs.parts.Promises.{no_promises, promise_at, promise_state, reactions_of, is_reaction_of, deferred_promise, promise_roots, with_promise, with_settled, with_reaction, without_reaction, without_promise, reactions_settled};
+ghost use Rattle.deferred.specs.KeptPromises.{AreMaps};
 
-use crate::row::PromiseRow;
+use crate::row::{self, PromiseRow};
 use crate::rows;
 use finalizer_queue::Book;
 use napi_types::{DeferredId, NoMemory, Status, Ticket, ValueId};
@@ -31,12 +32,17 @@ pub struct Deferreds {
 }
 
 impl Model for Deferreds {
-    ghost use Rattle.napi_types.specs.parts.Promises.{Promises};
+    ghost use Rattle.std.specs.Prelude.{min};
+    ghost use Rattle.std.specs.HashMap.{spare};
+    ghost use Rattle.deferred.specs.KeptPromises.{KeptPromises};
     ghost use Rattle.deferred.specs.PromiseRows.{promises_of, AreTied};
 
-    ghost Value = { Promises };
+    ghost Value = { KeptPromises };
 
-    ghost view = { λ d. promises_of d.promises.entries d.deferreds.entries d.made };
+    ghost view = { λ d. record {
+      promises = promises_of d.promises.entries d.deferreds.entries d.made;
+      spare = min (spare d.promises) (spare d.deferreds);
+    } };
 
     ghost invariant = { λ d. AreTied d.promises.entries d.deferreds.entries d.reactions.entries d.made };
 }
@@ -44,7 +50,7 @@ impl Model for Deferreds {
 impl Deferreds {
     /// No promises.
     pub fn new(alloc: Global) -> Result<Deferreds, NoMemory>
-        ensures { IfOk result (λ d. d ≡ no_promises) }
+        ensures { IfOk result (λ d. d.promises ≡ no_promises) }
     {
         Ok(Deferreds {
             alloc,
@@ -55,19 +61,49 @@ impl Deferreds {
         })
     }
 
+    /// No effect. Its clause is what holds of all promises.
+    pub fn invariant(&self)
+        ensures { AreMaps self.now.promises }
+    {
+        let _made = self.made;
+    }
+
+    /// Takes the memory for one promise more: [`Deferreds::make_reserved`] then takes none. Where there is some already it takes none.
+    ///
+    /// Near constant time: now and then the tables grow.
+    pub fn reserve(&mut self) -> Result<(), NoMemory>
+        ensures place { OnOk result (0 < self.new.spare) }
+        ensures same { self.new.promises ≡ self.old.promises }
+    {
+        self.promises.reserve(1)?;
+        self.deferreds.reserve(1)?;
+        Ok(())
+    }
+
     /// Makes a promise of a value, and its deferred: the manual's `napi_create_promise`. The promise is pending. The number of the
     /// deferred was never issued before, and is not 0. A value that was a promise already begins anew, as if it had been gone.
     /// Fewer than 2^62 deferreds were made before.
     ///
     /// Near constant time: now and then the tables grow.
     pub fn make(&mut self, promise: ValueId) -> Result<DeferredId, NoMemory>
-        requires { length self.old.issued < 2 ^ 62 }
-        ensures fresh { IfOk result (λ id. has_number id.0 (0 ∷ self.old.issued) ≡ false) }
-        ensures made { IfOk result (λ id. self.new ≡ with_promise promise.0 id.0 self.old) }
-        ensures err { OnErr result (self.new ≡ self.old) }
+        requires { length self.old.promises.issued < 2 ^ 62 }
+        ensures fresh { IfOk result (λ id. has_number id.0 (0 ∷ self.old.promises.issued) ≡ false) }
+        ensures made { IfOk result (λ id. self.new.promises ≡ with_promise promise.0 id.0 self.old.promises) }
+        ensures err { OnErr result (self.new.promises ≡ self.old.promises) }
     {
-        self.promises.reserve(1)?;
-        self.deferreds.reserve(1)?;
+        self.reserve()?;
+        Ok(self.make_reserved(promise))
+    }
+
+    /// As [`Deferreds::make`], where the memory was taken before.
+    ///
+    /// Near constant time. It takes no memory: [`Deferreds::reserve`] took it.
+    pub fn make_reserved(&mut self, promise: ValueId) -> DeferredId
+        requires place { 0 < self.old.spare }
+        requires few { length self.old.promises.issued < 2 ^ 62 }
+        ensures fresh { has_number result.0 (0 ∷ self.old.promises.issued) ≡ false }
+        ensures made { self.new.promises ≡ with_promise promise.0 result.0 self.old.promises }
+    {
         rows::take_off(
             &mut self.promises,
             &mut self.deferreds,
@@ -83,7 +119,7 @@ impl Deferreds {
         rows::put(&mut self.promises, promise.0, row);
         rows::put_number(&mut self.deferreds, number, promise.0);
         self.made = number;
-        Ok(DeferredId(number))
+        DeferredId(number)
     }
 
     /// Settles a deferred: the manual's `napi_resolve_deferred` with the state 1, and `napi_reject_deferred` with 2. Its promise has
@@ -94,12 +130,13 @@ impl Deferreds {
     /// In time linear in how many reactions the promise has, times the logarithm of how many tickets are then due. It takes no memory.
     pub fn settle(&mut self, id: DeferredId, state: u8, book: &mut Book) -> Result<ValueId, Status>
         requires state { (1 ≤ state) × (state ≤ 2) }
-        requires registered { IfSome (deferred_promise self.old id.0) (λ v. All (λ n. is_at is_registered book.old.book n ≡ true) (reactions_of self.old v)) }
-        ensures refusal { result_err result ≡ when (is_none (deferred_promise self.old id.0)) status.InvalidArg }
-        ensures promise { IfOk result (λ v. deferred_promise self.old id.0 ≡ Some v.0) }
-        ensures settled { IfOk result (λ v. self.new ≡ with_settled id.0 v.0 state self.old) }
-        ensures due { IfOk result (λ v. book.new.book ≡ reactions_settled state (reactions_of self.old v.0) book.old.book) }
-        ensures err { OnErr result ((self.new ≡ self.old) × (book.new ≡ book.old)) }
+        requires registered { IfSome (deferred_promise self.old.promises id.0)
+            (λ v. All (λ n. is_at is_registered book.old.book n ≡ true) (reactions_of self.old.promises v)) }
+        ensures refusal { result_err result ≡ when (is_none (deferred_promise self.old.promises id.0)) status.InvalidArg }
+        ensures promise { IfOk result (λ v. deferred_promise self.old.promises id.0 ≡ Some v.0) }
+        ensures settled { IfOk result (λ v. self.new.promises ≡ with_settled id.0 v.0 state self.old.promises) }
+        ensures due { IfOk result (λ v. book.new.book ≡ reactions_settled state (reactions_of self.old.promises v.0) book.old.book) }
+        ensures err { OnErr result ((self.new.promises ≡ self.old.promises) × (book.new ≡ book.old)) }
         ensures spare { book.old.spare ≤ book.new.spare }
     {
         let Some(promise) = rows::take_number(&mut self.deferreds, id.0) else {
@@ -114,10 +151,11 @@ impl Deferreds {
     ///
     /// Near constant time: now and then the tables grow.
     pub fn react(&mut self, promise: ValueId, ticket: Ticket) -> Result<(), NoMemory>
-        requires { IsSome (promise_at self.old promise.0) }
-        ensures added { ((v : ℕ) → is_reaction_of self.old v ticket.0 ≡ false) → OnOk result (self.new ≡ with_reaction promise.0 ticket.0 self.old) }
-        ensures there { (v : ℕ) → is_reaction_of self.old v ticket.0 ≡ true → self.new ≡ self.old }
-        ensures err { OnErr result (self.new ≡ self.old) }
+        requires { IsSome (promise_at self.old.promises promise.0) }
+        ensures added { ((v : ℕ) → is_reaction_of self.old.promises v ticket.0 ≡ false)
+            → OnOk result (self.new.promises ≡ with_reaction promise.0 ticket.0 self.old.promises) }
+        ensures there { (v : ℕ) → is_reaction_of self.old.promises v ticket.0 ≡ true → self.new.promises ≡ self.old.promises }
+        ensures err { OnErr result (self.new.promises ≡ self.old.promises) }
     {
         self.reactions.reserve(1)?;
         if self.reactions.contains_key(&ticket.0) {
@@ -132,7 +170,7 @@ impl Deferreds {
     ///
     /// Near constant time.
     pub fn state(&self, promise: ValueId) -> Option<u8>
-        ensures { result ≡ promise_state self.now promise.0 }
+        ensures { result ≡ promise_state self.now.promises promise.0 }
     {
         let row = self.promises.get(&promise.0)?;
         Some(row.state)
@@ -142,7 +180,7 @@ impl Deferreds {
     ///
     /// Near constant time.
     pub fn promise_of(&self, ticket: Ticket) -> Option<ValueId>
-        ensures { (v : ℕ) → (option_map (λ w. w.0) result ≡ Some v) ↔ (is_reaction_of self.now v ticket.0 ≡ true) }
+        ensures { (v : ℕ) → (option_map (λ w. w.0) result ≡ Some v) ↔ (is_reaction_of self.now.promises v ticket.0 ≡ true) }
     {
         let promise = self.reactions.get(&ticket.0)?;
         Some(ValueId(*promise))
@@ -153,7 +191,7 @@ impl Deferreds {
     /// Near constant time where it is the first of its promise's reactions, as those of one promise end in the order of adding. Else
     /// linear in how many that promise has. It takes no memory.
     pub fn ended(&mut self, ticket: Ticket)
-        ensures { self.new ≡ without_reaction ticket.0 self.old }
+        ensures { self.new.promises ≡ without_reaction ticket.0 self.old.promises }
     {
         let Some(promise) = rows::take_number(&mut self.reactions, ticket.0) else {
             return;
@@ -165,7 +203,7 @@ impl Deferreds {
     ///
     /// In time linear in how many reactions it has. It takes no memory.
     pub fn gone(&mut self, value: ValueId)
-        ensures { self.new ≡ without_promise value.0 self.old }
+        ensures { self.new.promises ≡ without_promise value.0 self.old.promises }
     {
         rows::take_off(
             &mut self.promises,
@@ -179,11 +217,20 @@ impl Deferreds {
     ///
     /// Near constant time.
     pub fn is_root(&self, value: ValueId) -> bool
-        ensures { result ≡ has_number value.0 (promise_roots self.now) }
+        ensures { result ≡ has_number value.0 (promise_roots self.now.promises) }
     {
         match self.promises.get(&value.0) {
-            Some(row) => row.deferred.is_some() || !row.reactions.is_empty(),
+            Some(row) => row::is_root(row),
             None => false,
         }
+    }
+
+    /// Adds each value for which [`Deferreds::is_root`] holds, in any order.
+    ///
+    /// In time linear in how many promises there are.
+    pub fn push_roots(&self, roots: &mut Vec<ValueId>) -> Result<(), NoMemory>
+        ensures { OnOk result (HaveSameNumbers (map (λ v. v.0) roots.new.items) (map (λ v. v.0) roots.old.items ++ promise_roots self.now.promises)) }
+    {
+        rows::push_roots(&self.promises, roots)
     }
 }

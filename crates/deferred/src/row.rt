@@ -6,7 +6,7 @@ ghost use Rattle.std.specs.Prelude.{nat_eq, ℕ, None, cond};
 ghost use Rattle.napi_types.specs.plain.Lists.{has_number};
 ghost use Rattle.napi_types.specs.parts.Book.{is_registered, is_at, changed_at};
 ghost use Rattle.napi_types.specs.parts.Promises.{reactions_settled, made_settled};
-ghost use Rattle.deferred.specs.PromiseRows.{AreOnce, row_of};
+ghost use Rattle.deferred.specs.PromiseRows.{AreOnce, row_of, is_root_row};
 
 use finalizer_queue::Book;
 use napi_types::Ticket;
@@ -20,6 +20,13 @@ pub(crate) struct PromiseRow {
     pub(crate) deferred: Option<u64>,
     // The tickets of its reactions that have not ended, in the order of adding.
     pub(crate) reactions: VecDeque<u64>,
+}
+
+/// Whether the promise is a root: its deferred is not settled, or it has a reaction that has not ended.
+pub(crate) fn is_root(row: &PromiseRow) -> bool
+    ensures { result ≡ is_root_row (row_of row.now) }
+{
+    row.deferred.is_some() || !row.reactions.is_empty()
 }
 
 /// Takes a reaction out. It is the first but where reactions end in another order than they were added in.

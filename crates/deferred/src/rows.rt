@@ -1,16 +1,16 @@
 //! The table of promises, that of the deferreds that are not settled, and that of reactions, read and changed together.
-ghost use Rattle.std.specs.Prelude.{◌≡◌, ◌≤◌, ◌<◌, ℕ, nat_eq, true, None, Some, cond, option_map, IsSome, OnOk, OnErr};
+ghost use Rattle.std.specs.Prelude.{◌≡◌, ◌≤◌, ◌<◌, ◌++◌, [], ◌∷◌, ℕ, nat_eq, map, true, None, Some, cond, option_map, IsSome, OnOk, OnErr};
 ghost use Rattle.std.specs.HashMap.{spare};
-ghost use Rattle.std.specs.List.{All};
-ghost use Rattle.std.specs.Map.{lookup};
+ghost use Rattle.std.specs.List.{All, IsDistinct};
+ghost use Rattle.std.specs.Map.{lookup, keys_of};
 ghost use Rattle.napi_types.specs.plain.Lists.{has_number};
 ghost use Rattle.napi_types.specs.parts.Book.{is_registered, is_at};
 ghost use Rattle.napi_types.specs.parts.Promises.{reactions_settled};
-ghost use Rattle.deferred.specs.PromiseRows.{row_at, row_of, is_deferred_of, reactions_in, AreOnce, settled_row, added_row, taken_row};
+ghost use Rattle.deferred.specs.PromiseRows.{row_at, row_of, is_deferred_of, reactions_in, AreOnce, settled_row, added_row, taken_row, root_values, is_root_row};
 
 use crate::row::{self, PromiseRow};
 use finalizer_queue::Book;
-use napi_types::NoMemory;
+use napi_types::{NoMemory, ValueId};
 use std::collections::HashMap;
 
 /// Takes a promise out of the three tables.
@@ -118,4 +118,28 @@ pub(crate) fn take_number(numbers: &mut HashMap<u64, u64>, number: u64) -> Optio
     ensures same { result ≡ None → numbers.new.entries ≡ numbers.old.entries }
 {
     numbers.remove(&number)
+}
+
+/// Adds the values of the promises that are roots, in the order of the table.
+pub(crate) fn push_roots(
+    promises: &HashMap<u64, PromiseRow>,
+    roots: &mut Vec<ValueId>,
+) -> Result<(), NoMemory>
+    ensures pushed { OnOk result (map (λ v. v.0) roots.new.items ≡ map (λ v. v.0) roots.old.items ++ root_values promises.now.entries) }
+    ensures once { OnOk result (IsDistinct nat_eq (keys_of promises.now.entries)) }
+{
+    for (value, row) in promises.iter() {
+        push_if(roots, ValueId(*value), row)?;
+    }
+    Ok(())
+}
+
+/// Adds the value of a promise, where it is a root.
+fn push_if(roots: &mut Vec<ValueId>, value: ValueId, row: &PromiseRow) -> Result<(), NoMemory>
+    ensures { OnOk result (map (λ v. v.0) roots.new.items ≡ map (λ v. v.0) roots.old.items ++ cond (is_root_row (row_of row.now)) (value.0 ∷ []) []) }
+{
+    if row::is_root(row) {
+        roots.push(value)?;
+    }
+    Ok(())
 }

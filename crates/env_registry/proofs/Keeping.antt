@@ -12,6 +12,7 @@ use Rattle.napi_types.specs.plain.Lists.{has}
 use Rattle.napi_types.specs.parts.Attachments.{Wrapped, Tagged, Attached, Attachments, no_attachments, with_wrap, without_wrap, with_tag, attached_where, left_on, tickets_where}
 use Rattle.napi_types.specs.parts.Book.{Book, Registration, TicketState, is_registered, is_at, made_withdrawn, made_begun, made_ended, changed_where, moved, new_ticket, registration_at, due_info, with_registration}
 use Rattle.napi_types.specs.parts.Hooks.{Hook}
+use Rattle.napi_types.specs.parts.Promises.{Promises}
 use Rattle.napi_types.specs.environment.Ends.{duty_ended}
 use Rattle.napi_types.specs.environment.ExternalCalls.{attached_if}
 use Rattle.napi_types.proofs.plain.Found.{apart-below, as_map-with_record, as_map-kept}
@@ -22,7 +23,7 @@ use Rattle.napi_types.proofs.parts.Moved.{IsUnder, PassesTest, under-ticket}
 use Rattle.napi_types.proofs.environment.Registrations.{registered-holds}
 use Rattle.finalizer_queue.specs.KeptBook.{LowestBegins}
 use Rattle.wrap_tag.specs.Wraps.{AreGiven}
-use Rattle.env_registry.specs.KeptRegistry.{IsGiven, IsKept}
+use Rattle.env_registry.specs.KeptRegistry.{IsGiven, IsKept, AreBare, IsKeptRegistry}
 use Rattle.env_registry.specs.Registering.{registration_of, ticket_for, with_registration_if, withdrawn_if}
 use Rattle.env_registry.specs.declared.finalizer.Finalizer.{Finalizer}
 use Rattle.env_registry.proofs.Withdrawn.{longer, given-new}
@@ -34,6 +35,10 @@ kept-new = record {
   given = All-nil (λ (t : Attached). IsGiven [] t.ticket);
   uncalled = All-nil (λ (r : Registration). r.cause ≢ cause.Call);
 }
+
+-- what is attached, and the promises
+pub kept-all : {a : Attachments} {book : Book} {p : Promises} → IsKept a book → AreBare p → IsKeptRegistry a book p
+kept-all attached bare = record { attached = attached; bare = bare }
 
 -- THE BOOK CHANGES
 given-longer : (book more : Book) → length book ≤ length more → (o : Option ℕ) → IfSome o (IsGiven book) → IfSome o (IsGiven more)

@@ -5,17 +5,26 @@ use Rattle.napi_types.specs.declared.entry.Cause.TheVariants as cause
 use Rattle.napi_types.specs.plain.Lists.{as_map}
 use Rattle.napi_types.specs.parts.Attachments.{Attachments, no_attachments}
 use Rattle.napi_types.specs.parts.Book.{Book}
+use Rattle.napi_types.specs.parts.Promises.{Promises, no_promises}
 use Rattle.napi_types.specs.environment.Registry.{Registry}
 
--- the parts, and for how many attachments to values and for how many tickets more there is the memory
+-- the parts, and for how many attachments to values, for how many tickets and for how many promises more there is the memory
 pub record KeptRegistry : Type 0 where
   pub parts : Registry
   pub places : ℕ
   pub slips : ℕ
+  pub deferreds : ℕ
 
 -- the parts before anything is registered, with a place for the instance data of each of so many addons
 abbrev pub new_parts : ℕ → Registry
-new_parts addons = record { attachments = no_attachments; book = []; hooks = []; async_hooks = []; instances = replicate addons None }
+new_parts addons = record {
+  attachments = no_attachments;
+  book = [];
+  hooks = [];
+  async_hooks = [];
+  instances = replicate addons None;
+  promises = no_promises;
+}
 
 -- the book gave the ticket
 abbrev pub IsGiven : Book → ℕ → Type 0
@@ -32,3 +41,12 @@ pub record IsKept (a : Attachments) (book : Book) : Type 0 where
   pub given_with_wraps : All (λ w. IfSome w.ticket (IsGiven book)) a.wraps
   pub given : All (λ t. IsGiven book t.ticket) a.tickets
   pub uncalled : All (λ r. r.cause ≢ cause.Call) book
+
+-- no promise has a reaction
+abbrev pub AreBare : Promises → Type 0
+AreBare p = All (λ r. r.reactions ≡ []) p.promises
+
+-- what holds of every registry
+pub record IsKeptRegistry (a : Attachments) (book : Book) (p : Promises) : Type 0 where
+  pub attached : IsKept a book
+  pub bare : AreBare p

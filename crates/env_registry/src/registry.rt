@@ -1,14 +1,17 @@
 //! The registry of an environment.
 ghost use Rattle.std.specs.Prelude.{◌≡◌, IfOk};
+ghost use Rattle.deferred.specs.KeptPromises.{AreMaps};
 ghost use Rattle.env_registry.specs.KeptRegistry.{new_parts, AreOnce};
 
 mod attached;
 mod hooks;
 mod instances;
+mod promises;
 mod tickets;
 
 use crate::instances::InstanceTable;
 use cleanup_hooks::Hooks;
+use deferred::Deferreds;
 use finalizer_queue::Book;
 pub use instances::Replaced;
 use napi_types::NoMemory;
@@ -17,17 +20,18 @@ use std::marker::Model;
 use wrap_tag::Wraps;
 
 /// What is registered with an environment, and what is attached to its values. What is attached stays until it is taken off or its
-/// value is freed, a hook until it begins or is removed, and a ticket for ever.
+/// value is freed, as does a promise, a hook until it begins or is removed, and a ticket for ever.
 #[derive(Drop)]
 pub struct Registry {
     wraps: Wraps,
     book: Book,
     hooks: Hooks,
     instances: InstanceTable,
+    promises: Deferreds,
 }
 
 impl Model for Registry {
-    ghost use Rattle.env_registry.specs.KeptRegistry.{KeptRegistry, IsKept};
+    ghost use Rattle.env_registry.specs.KeptRegistry.{KeptRegistry, IsKeptRegistry};
 
     ghost Value = { KeptRegistry };
 
@@ -38,12 +42,14 @@ impl Model for Registry {
         hooks = r.hooks.hooks;
         async_hooks = r.hooks.async_hooks;
         instances = r.instances;
+        promises = r.promises.promises;
       };
       places = r.wraps.spare;
       slips = r.book.spare;
+      deferreds = r.promises.spare;
     } };
 
-    ghost invariant = { λ r. IsKept r.wraps.attachments r.book.book };
+    ghost invariant = { λ r. IsKeptRegistry r.wraps.attachments r.book.book r.promises.promises };
 }
 
 impl Registry {
@@ -54,18 +60,21 @@ impl Registry {
         let wraps = Wraps::new(alloc)?;
         let book = Book::new(alloc)?;
         let instances = InstanceTable::new(alloc, addons)?;
+        let promises = Deferreds::new(alloc)?;
         Ok(Registry {
             wraps,
             book,
             hooks: Hooks::new(alloc),
             instances,
+            promises,
         })
     }
 
-    /// No effect. Its clause is the registry's invariant.
+    /// No effect. Its clauses are of the registry's invariant.
     pub fn invariant(&self)
-        ensures { AreOnce self.now.parts.attachments }
+        ensures once { AreOnce self.now.parts.attachments }
+        ensures maps { AreMaps self.now.parts.promises }
     {
-        let _ = self.book.has_due();
+        self.promises.invariant();
     }
 }

@@ -19,18 +19,18 @@ const PROMISE: ValueId = ValueId(9);
 
 /// A value becomes a promise, where none has a reaction.
 fn make(rt: &impl Abort, deferreds: &mut Deferreds, value: ValueId) -> DeferredId
-    requires few { length deferreds.old.issued < 2 ^ 20 }
-    requires bare { All (λ p. p.reactions ≡ []) deferreds.old.promises }
-    ensures bare { All (λ p. p.reactions ≡ []) deferreds.new.promises }
-    ensures count { length deferreds.new.issued ≤ length deferreds.old.issued + 1 }
+    requires few { length deferreds.old.promises.issued < 2 ^ 20 }
+    requires bare { All (λ p. p.reactions ≡ []) deferreds.old.promises.promises }
+    ensures bare { All (λ p. p.reactions ≡ []) deferreds.new.promises.promises }
+    ensures count { length deferreds.new.promises.issued ≤ length deferreds.old.promises.issued + 1 }
 {
     ample(rt, deferreds.make(value))
 }
 
 /// Many values become promises. Their deferreds.
 fn make_many(rt: &impl Abort, deferreds: &mut Deferreds, made: &mut Vec<DeferredId>)
-    requires { deferreds.old ≡ no_promises }
-    ensures { All (λ p. p.reactions ≡ []) deferreds.new.promises }
+    requires { deferreds.old.promises ≡ no_promises }
+    ensures { All (λ p. p.reactions ≡ []) deferreds.new.promises.promises }
 {
     for value in 0..MANY {
         let id = make(rt, deferreds, ValueId(value));
@@ -40,15 +40,15 @@ fn make_many(rt: &impl Abort, deferreds: &mut Deferreds, made: &mut Vec<Deferred
 
 /// A promise is settled, where none has a reaction. Whether it was accepted.
 fn settle(deferreds: &mut Deferreds, id: DeferredId, book: &mut Book) -> bool
-    requires { All (λ p. p.reactions ≡ []) deferreds.old.promises }
-    ensures { All (λ p. p.reactions ≡ []) deferreds.new.promises }
+    requires { All (λ p. p.reactions ≡ []) deferreds.old.promises.promises }
+    ensures { All (λ p. p.reactions ≡ []) deferreds.new.promises.promises }
 {
     deferreds.settle(id, 1, book).is_ok()
 }
 
 /// Each is settled. How many were accepted.
 fn settle_many(deferreds: &mut Deferreds, made: &[DeferredId], book: &mut Book) -> usize
-    requires { All (λ p. p.reactions ≡ []) deferreds.old.promises }
+    requires { All (λ p. p.reactions ≡ []) deferreds.old.promises.promises }
 {
     let mut accepted = 0;
     for id in made {
@@ -94,12 +94,12 @@ fn many_promises_settle_and_go(rt: HostRuntime) {
 /// A reaction is added to the promise.
 fn react(rt: &impl Abort, deferreds: &mut Deferreds, book: &mut Book)
     requires few { length book.old.book < 2 ^ 20 }
-    requires promise { IsSome (promise_at deferreds.old 9) }
-    requires registered { All (λ n. is_at is_registered book.old.book n ≡ true) (reactions_of deferreds.old 9) }
+    requires promise { IsSome (promise_at deferreds.old.promises 9) }
+    requires registered { All (λ n. is_at is_registered book.old.book n ≡ true) (reactions_of deferreds.old.promises 9) }
     ensures count { length book.new.book ≡ length book.old.book + 1 }
-    ensures promise { IsSome (promise_at deferreds.new 9) }
-    ensures deferreds { deferreds.new.deferreds ≡ deferreds.old.deferreds }
-    ensures registered { All (λ n. is_at is_registered book.new.book n ≡ true) (reactions_of deferreds.new 9) }
+    ensures promise { IsSome (promise_at deferreds.new.promises 9) }
+    ensures deferreds { deferreds.new.promises.deferreds ≡ deferreds.old.promises.deferreds }
+    ensures registered { All (λ n. is_at is_registered book.new.book n ≡ true) (reactions_of deferreds.new.promises 9) }
 {
     ample(rt, book.reserve());
     let ticket = book.register(NewDuty {
@@ -115,10 +115,10 @@ fn react(rt: &impl Abort, deferreds: &mut Deferreds, book: &mut Book)
 
 /// A promise with many reactions is made. Its deferred.
 fn promise_with_many(rt: &impl Abort, deferreds: &mut Deferreds, book: &mut Book) -> DeferredId
-    requires none { deferreds.old ≡ no_promises }
+    requires none { deferreds.old.promises ≡ no_promises }
     requires blank { book.old.book ≡ [] }
-    ensures registered { All (λ n. is_at is_registered book.new.book n ≡ true) (reactions_of deferreds.new 9) }
-    ensures deferred { deferred_promise deferreds.new result.0 ≡ Some 9 }
+    ensures registered { All (λ n. is_at is_registered book.new.book n ≡ true) (reactions_of deferreds.new.promises 9) }
+    ensures deferred { deferred_promise deferreds.new.promises result.0 ≡ Some 9 }
 {
     let id = ample(rt, deferreds.make(PROMISE));
     for _number in 0..MANY {

@@ -5,8 +5,8 @@ use Rattle.parts_suite.proofs.tests.promises.settle.Goals as goal
 
 pub settle-requires-clause-registered : goal.settle-requires-clause-registered
 settle-requires-clause-registered c =
-    registered-bare c.args.deferreds.now c.args.book.now.book (deferred_promise c.args.deferreds.now c.args.id.0) c.requires
+    registered-bare c.args.deferreds.now.promises c.args.book.now.book (deferred_promise c.args.deferreds.now.promises c.args.id.0) c.requires
 
 pub returns : goal.returns
 returns c =
-    settled-bare c.args.deferreds.now c.settle.new.self c.args.book.now c.settle.new.book c.args.id.0 1 (λ (v : ValueId). v.0) c.settle.result c.settle.ensures.settled c.settle.ensures.err c.requires
+    settled-bare c.args.deferreds.now.promises c.settle.new.self.promises c.args.book.now c.settle.new.book c.args.id.0 1 (λ (v : ValueId). v.0) c.settle.result c.settle.ensures.settled c.settle.ensures.err c.requires
