@@ -4,6 +4,7 @@ pub mod HandleValues
 pub mod Heaps
 pub mod Held
 pub mod KeepingHeaps
+pub mod Linked
 pub mod ListedNames
 pub mod Numbering
 pub mod SeenValues

@@ -1,6 +1,6 @@
 //! The values of handles, and what a call may expect of a value.
 ghost use Rattle.std.specs.Prelude.{◌==◌, ◌≡◌, true, false, is_some, nat_lt, option_map, IfSome, IfOk, IfErr, OnOk};
-ghost use Rattle.napi_types.specs.parts.Bodies.{is_object_like, is_string, is_number, is_bigint, is_boolean, is_array, is_external, is_error_body, signed_of, flag_of, text_of, external_payload, strictly_equal};
+ghost use Rattle.napi_types.specs.parts.Bodies.{is_object_like, is_string, is_number, is_bigint, is_boolean, is_array, is_external, is_error_body, is_promise_body, signed_of, flag_of, text_of, external_payload, strictly_equal};
 ghost use Rattle.napi_types.specs.parts.Graph.{number_in, IsLive, IsSoundStore};
 ghost use Rattle.napi_types.specs.parts.Properties.{element_at};
 ghost use Rattle.napi_types.specs.parts.Scopes.{gives};
@@ -12,6 +12,9 @@ ghost use Rattle.env_values.specs.ValueSteps.{IsValueOf, IsLentBy, IsStored};
 use handle_scope::Scopes;
 use napi_types::{Body, HandleId, Status, TextNo, ValueId};
 use value_store::{Store, ValueInfo};
+
+/// The tag of a value that is a promise: `promise_tag` of the definitions.
+pub(crate) const PROMISE_TAG: u8 = 1;
 
 /// The value that a handle gives: its number in the store, and what it is.
 #[derive(Clone, Copy)]
@@ -179,6 +182,19 @@ pub(crate) fn is_error_value(body: Body) -> bool
     ensures { result ≡ is_error_body body }
 {
     matches!(body, Body::Object { error: true, .. })
+}
+
+/// Whether a value is a promise.
+pub(crate) fn is_promise_value(body: Body) -> bool
+    ensures { result ≡ is_promise_body body }
+{
+    matches!(
+        body,
+        Body::Linked {
+            tag: PROMISE_TAG,
+            ..
+        }
+    )
 }
 
 /// No effect. Its clause is the store's invariant, which `Store::get` proves.

@@ -7,14 +7,14 @@ ghost use Rattle.env_values.specs.ValueSteps.{Comes, ComesOf};
 
 use crate::known::{
     array, bigint, boolean, element, equals_strictly, external, is_array_value, is_error_value,
-    known_text, lent_value, number, object_like, text, value_of_handle,
+    is_promise_value, known_text, lent_value, number, object_like, text, value_of_handle,
 };
 use crate::stop::Stop;
 use handle_scope::Scopes;
 use napi_types::{Call, HandleId, Out, TextNo};
 use value_store::Store;
 
-/// The calls that tell what one value is: `typeof`, `is_array`, `is_error` and `get_value_*`. `value` is the one handle that the call names.
+/// The calls that tell what one value is: `typeof`, `is_array`, `is_error`, `is_promise` and `get_value_*`. `value` is the one handle that the call names.
 pub(crate) fn answer_about(
     store: &Store,
     scopes: &Scopes,
@@ -31,6 +31,7 @@ pub(crate) fn answer_about(
         Call::Typeof(_) => Ok(Out::Kind(value.body.kind())),
         Call::IsArray(_) => Ok(Out::Flag(is_array_value(value.body))),
         Call::IsError(_) => Ok(Out::Flag(is_error_value(value.body))),
+        Call::IsPromise(_) => Ok(Out::Flag(is_promise_value(value.body))),
         Call::GetValueInt64(_) => Ok(Out::Signed(number(value.body)?)),
         Call::GetValueBigintInt64(_) => Ok(Out::Signed(bigint(value.body)?)),
         Call::GetValueBool(_) => Ok(Out::Flag(boolean(value.body)?)),

@@ -102,6 +102,7 @@ fn outcome(
         Call::Typeof(value)
         | Call::IsArray(value)
         | Call::IsError(value)
+        | Call::IsPromise(value)
         | Call::GetValueInt64(value)
         | Call::GetValueBigintInt64(value)
         | Call::GetValueBool(value)
