@@ -111,7 +111,7 @@ module _ (s t : StoreState) (kept : KeepsValues s t) where
     tickets = λ k w inside. kept.live (get_or a.tickets k w).value (i.tickets k w inside);
   }
 
-  listed-kept : {A : Type 0} (value : A → ℕ) (see new : A → A) (xs : List A) → ((x : A) → number_in t (value x) ≡ number_in s (value x) → new x ≡ see x) → All (λ x. IsLive s (value x)) xs
+  pub listed-kept : {A : Type 0} (value : A → ℕ) (see new : A → A) (xs : List A) → ((x : A) → number_in t (value x) ≡ number_in s (value x) → new x ≡ see x) → All (λ x. IsLive s (value x)) xs
       → map new xs ≡ map see xs
   listed-kept value see new [] same live = refl
   listed-kept value see new (x ∷ xs) same live =

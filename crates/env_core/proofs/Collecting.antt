@@ -11,8 +11,9 @@ use Rattle.napi_types.specs.plain.Replies.{plain}
 use Rattle.napi_types.specs.parts.Attachments.{Attachments, left_on, is_attached_to}
 use Rattle.napi_types.specs.parts.Book.{Book, due_where}
 use Rattle.napi_types.specs.parts.Frames.{Frame}
-use Rattle.napi_types.specs.parts.Graph.{StoreState, IsLive, number_in, graph_of}
+use Rattle.napi_types.specs.parts.Graph.{StoreState, IsSoundStore, IsLive, number_in, graph_of}
 use Rattle.napi_types.specs.parts.Heap.{Heap}
+use Rattle.napi_types.specs.parts.Promises.{Promises, promise_roots, promises_left}
 use Rattle.napi_types.specs.parts.Reach.{reach_from}
 use Rattle.napi_types.specs.parts.References.{Reference, ReferenceMap, strong_values, value_left, emptied}
 use Rattle.napi_types.specs.parts.Scopes.{OpenHandle, held_by_frames}
@@ -27,6 +28,8 @@ use Rattle.handle_scope.specs.HandleScopes.{HandleScopes}
 use Rattle.env_values.specs.SeenValues.{seen_frame, heap_of}
 use Rattle.env_values.proofs.SeenValues.{IsSame, seen-same}
 use Rattle.trace_collect.specs.Collects.{reached, AreUnreached}
+use Rattle.deferred.specs.KeptPromises.{AreMaps}
+use Rattle.env_core.specs.Promising.{promises_seen, PromisesAreLive}
 use Rattle.env_core.specs.TsfnRooting.{root_seen, tsfn_roots_seen, RootsAreLive}
 use Rattle.env_core.specs.Referring.{seen_reference, references_seen, RefersToLive}
 use Rattle.env_core.specs.Rooting.{AreRoots, held_values}
@@ -145,16 +148,16 @@ record KeepsRoots (freed : List ℕ) (scopes : HandleScopes) (m : ReferenceMap) 
   pub functions : All (λ r. has_number r freed ≡ false) (map (λ f. f.value) rs)
   pub pending : All (λ r. has_number r freed ≡ false) (option_to_list p)
 
-keeps-roots : (s t : StoreState) (scopes : HandleScopes) (m : ReferenceMap) (rs : List TsfnRoot) (p : Option ℕ) (ids freed alive : List ℕ)
-    → AreRoots s scopes m rs p ids → FreesOthers s t ids freed alive
+keeps-roots : (s t : StoreState) (scopes : HandleScopes) (m : ReferenceMap) (rs : List TsfnRoot) (p : Option ℕ) (ps : Promises) (ids freed alive : List ℕ)
+    → AreRoots s scopes m rs p ps ids → FreesOthers s t ids freed alive
     → KeepsRoots freed scopes m rs p
-keeps-roots s t scopes m rs p ids freed alive r c =
+keeps-roots s t scopes m rs p ps ids freed alive r c =
     let K : ℕ → Type 0 = λ id. has_number id freed ≡ false in
     let held : List ℕ = held_values scopes in
     let strong : List ℕ = strong_values m in
     let functions : List ℕ = map (λ (f : TsfnRoot). f.value) rs in
-    let all : All K (r.starting ++ held ++ strong ++ functions ++ option_to_list p) =
-    same-holds K ids (r.starting ++ held ++ strong ++ functions ++ option_to_list p) r.are c.kept in
+    let most_of : List ℕ = r.starting ++ held ++ strong ++ functions ++ option_to_list p in
+    let all : All K most_of = All-left K most_of (promise_roots ps) (same-holds K ids (most_of ++ promise_roots ps) r.are c.kept) in
     let most : All K (r.starting ++ held ++ strong ++ functions) = All-left K (r.starting ++ held ++ strong ++ functions) (option_to_list p) all in
     let outer : All K (r.starting ++ held ++ strong) = All-left K (r.starting ++ held ++ strong) functions most in
     record {
@@ -165,16 +168,16 @@ keeps-roots s t scopes m rs p ids freed alive r c =
     }
 
 -- no strong reference names a value that is freed
-pub strong-kept : (s t : StoreState) (scopes : HandleScopes) (m : ReferenceMap) (rs : List TsfnRoot) (p : Option ℕ) (ids freed alive : List ℕ)
-    → AreRoots s scopes m rs p ids → FreesOthers s t ids freed alive
+pub strong-kept : (s t : StoreState) (scopes : HandleScopes) (m : ReferenceMap) (rs : List TsfnRoot) (p : Option ℕ) (ps : Promises) (ids freed alive : List ℕ)
+    → AreRoots s scopes m rs p ps ids → FreesOthers s t ids freed alive
     → All (λ r. has_number r freed ≡ false) (strong_values m)
-strong-kept s t scopes m rs p ids freed alive r c = (keeps-roots s t scopes m rs p ids freed alive r c).strong
+strong-kept s t scopes m rs p ps ids freed alive r c = (keeps-roots s t scopes m rs p ps ids freed alive r c).strong
 
 -- what is left is a state
-pub state-collected : (s t : StoreState) (scopes : HandleScopes) (frames : List Frame) (m n : ReferenceMap) (rs : List TsfnRoot) (p : Option ℕ) (ids freed alive : List ℕ)
-    → IsState s scopes frames p m rs → AreRoots s scopes m rs p ids → FreesOthers s t ids freed alive → n ≡ emptied (λ v. has_number v freed) m → IsState t scopes frames p n rs
-state-collected s t scopes frames m n rs p ids freed alive i r c e =
-    let k : KeepsRoots freed scopes m rs p = keeps-roots s t scopes m rs p ids freed alive r c in
+pub state-collected : (s t : StoreState) (scopes : HandleScopes) (frames : List Frame) (m n : ReferenceMap) (rs : List TsfnRoot) (p : Option ℕ) (ps : Promises) (ids freed alive : List ℕ)
+    → IsState s scopes frames p m rs → AreRoots s scopes m rs p ps ids → FreesOthers s t ids freed alive → n ≡ emptied (λ v. has_number v freed) m → IsState t scopes frames p n rs
+state-collected s t scopes frames m n rs p ps ids freed alive i r c e =
+    let k : KeepsRoots freed scopes m rs p = keeps-roots s t scopes m rs p ps ids freed alive r c in
     record {
       live = held-kept s t ids freed alive c (held_by_frames scopes.frames) k.held i.live;
       frames = i.frames;
@@ -185,16 +188,18 @@ state-collected s t scopes frames m n rs p ids freed alive i r c e =
     }
 
 -- and it is what the machine's collection leaves
-pub collected-answers : (e : Environment) (s t : StoreState) (scopes : HandleScopes) (frames : List Frame) (m n : ReferenceMap) (rs : List TsfnRoot) (p : Option ℕ) (ids freed alive : List ℕ) (count : ℕ)
-    → IsState s scopes frames p m rs → AreRoots s scopes m rs p ids → alive ≡ reach_from (graph_of s) (map (number_in s) ids) → FreesOthers s t ids freed alive
+pub collected-answers : (e : Environment) (s t : StoreState) (scopes : HandleScopes) (frames : List Frame) (m n : ReferenceMap) (rs : List TsfnRoot) (p : Option ℕ) (ps : Promises) (ids freed alive : List ℕ) (count : ℕ)
+    → IsSoundStore s → PromisesAreLive s ps → AreMaps ps → IsState s scopes frames p m rs → AreRoots s scopes m rs p ps ids → alive ≡ reach_from (graph_of s) (map (number_in s) ids) → FreesOthers s t ids freed alive
     → graph_of t ≡ those_of alive (graph_of s) → count ≡ length (all_but alive (graph_of s)) → n ≡ emptied (λ v. has_number v freed) m
-    → (hung : Attachments) (book : Book) → hung ≡ left_on (is_freed alive) e.attachments → book ≡ due_where
-    (is_attached_to (is_freed alive) e.attachments) e.book
-    → AnswersInTime (whole_environment e s scopes m rs p) call.Collect (plain status.Ok (out.Unsigned count)) (record (whole_environment e t scopes n rs p) { attachments = hung; book = book })
-collected-answers e s t scopes frames m n rs p ids freed alive count i r are c graph counted empty hung book left due =
-    let before : Environment = whole_environment e s scopes m rs p in
-    let k : KeepsRoots freed scopes m rs p = keeps-roots s t scopes m rs p ids freed alive r c in
-    let reached : alive ≡ reach before = are ∙ reach_from-same (graph_of s) (map (number_in s) ids) (roots before) (roots-seen s e scopes m rs p ids r) in
+    → (hung : Attachments) (book : Book) (seen_ps : Promises) → hung ≡ left_on (is_freed alive) e.attachments → book ≡ due_where
+    (is_attached_to (is_freed alive) e.attachments) e.book → seen_ps ≡ promises_left (is_freed alive) (promises_seen s ps)
+    → AnswersInTime (whole_environment e s scopes m rs p ps) call.Collect (plain status.Ok (out.Unsigned count))
+    (record (whole_environment e t scopes n rs p ps) { attachments = hung; book = book; promises = seen_ps })
+collected-answers e s t scopes frames m n rs p ps ids freed alive count sound promised maps i r are c graph counted empty hung book seen_ps left due gone =
+    let before : Environment = whole_environment e s scopes m rs p ps in
+    let k : KeepsRoots freed scopes m rs p = keeps-roots s t scopes m rs p ps ids freed alive r c in
+    let reached : alive ≡ reach before =
+    are ∙ reach_from-same (graph_of s) (map (number_in s) ids) (roots before) (roots-seen s e scopes m rs p ps ids sound promised maps r) in
     let values : graph_of t ≡ those_of (reach before) (graph_of s) = graph ∙ ap (λ a. those_of a (graph_of s)) reached in
     let seen : map (seen_frame t) scopes.frames ≡ map (seen_frame s) scopes.frames = seen-same s t scopes.frames (held-same s t ids freed alive c (held_by_frames scopes.frames) k.held) in
     let heap : heap_of t scopes ≡ record (heap_of s scopes) { values = those_of (reach before) (graph_of s) } =
@@ -209,9 +214,10 @@ collected-answers e s t scopes frames m n rs p ids freed alive count i r are c g
       attachments = left_on (is_freed l) e.attachments;
       book = due_where
           (is_attached_to (is_freed l) e.attachments) e.book;
+      promises = promises_left (is_freed l) (promises_seen s ps);
     } in
     let step : Heap → ReferenceMap → List TsfnRoot → Option ℕ → Environment =
-    λ h l f q. record e { heap = h; references = l; attachments = hung; book = book; tsfn_roots = f; pending = q } in
+    λ h l f q. record e { heap = h; references = l; attachments = hung; book = book; tsfn_roots = f; pending = q; promises = seen_ps } in
     record {
       fresh = refl;
       reply = ap (λ l. plain status.Ok (out.Unsigned l)) (counted ∙ ap (λ a. length (all_but a (graph_of s))) reached);
@@ -220,7 +226,12 @@ collected-answers e s t scopes frames m n rs p ids freed alive count i r are c g
           ∙ ap (λ l. step (collected (reach before) before).heap l (tsfn_roots_seen t rs) (pending_seen t p)) references
           ∙ ap (λ f. step (collected (reach before) before).heap (collected (reach before) before).references f (pending_seen t p)) functions
           ∙ ap (λ q. step (collected (reach before) before).heap (collected (reach before) before).references (tsfn_roots_seen s rs) q) pending
-          ∙ ap (λ l. record (collected (reach before) before) { attachments = l; book = book }) left
-          ∙ ap (λ l. record (collected (reach before) before) { attachments = left_on (is_freed alive) e.attachments; book = l }) due
+          ∙ ap (λ l. record (collected (reach before) before) { attachments = l; book = book; promises = seen_ps }) left
+          ∙ ap (λ l. record (collected (reach before) before) { attachments = left_on (is_freed alive) e.attachments; book = l; promises = seen_ps }) due
+          ∙ ap (λ l. record (collected (reach before) before) {
+            attachments = left_on (is_freed alive) e.attachments;
+            book = due_where (is_attached_to (is_freed alive) e.attachments) e.book;
+            promises = l;
+          }) gone
           ∙ ap (alive_here (collected (reach before) before)) reached;
     }

@@ -24,6 +24,7 @@ use Rattle.napi_types.specs.plain.Phases.{next_phase}
 use Rattle.napi_types.specs.plain.Room.{one_if, need, is_full}
 use Rattle.napi_types.specs.parts.Book.{Book, Registration, is_registered, is_due, registration_at, lowest_due, owed_tickets, made_due, moved, moved_at, begun_in, may_begin_in}
 use Rattle.napi_types.specs.parts.Frames.{Frame, asks_made, caller_of, cause_of, duty_of, is_hub_duty, local_frames}
+use Rattle.napi_types.specs.parts.Promises.{Promises}
 use Rattle.napi_types.specs.parts.Hooks.{last_hook}
 use Rattle.napi_types.specs.environment.Calls.{answer_unless_deep}
 use Rattle.napi_types.specs.environment.Changes.{call_change, call_entry, issued_number, book_in, in_phase}
@@ -32,6 +33,7 @@ use Rattle.napi_types.specs.environment.Entering.{is_entering}
 use Rattle.napi_types.specs.environment.Environment.{Environment}
 use Rattle.napi_types.specs.environment.Hooked.{is_from_finals_on, IsHooked}
 use Rattle.napi_types.specs.environment.JournalRoom.{gone_place, reserved_journal}
+use Rattle.napi_types.specs.environment.Promised.{IsPromised}
 use Rattle.napi_types.specs.environment.Refusals.{refusal, refusal_before_depth, depth_refusal}
 use Rattle.napi_types.specs.environment.Tickets.{ticket_change, ticket_in, next_ticket}
 use Rattle.napi_types.proofs.parts.BookSteps.{step-length}
@@ -40,6 +42,7 @@ use Rattle.napi_types.proofs.parts.Moved.{IsUnder, PassesTest}
 use Rattle.napi_types.proofs.environment.AnswersKeep.{course-parts, KeepsButAsk, call_change-keeps, call-reserved}
 use Rattle.napi_types.proofs.environment.FrameChanges.{book_left, owed-left, KeepsButFrame, ended-keeps, left-parts}
 use Rattle.napi_types.proofs.environment.HookedSteps.{hooked-called, hooked-ended, hooked-begun, hooked-phase, GivesNew}
+use Rattle.napi_types.proofs.environment.Promised.{still-promised, called-promised, ended-promised}
 use Rattle.napi_types.proofs.environment.Registrations.{owed-in}
 use Rattle.env_core.specs.Journal.{JournalSeen, told_entry, last_reply}
 use Rattle.env_core.specs.Core.{Core, IsCore, after_change, room_in}
@@ -59,8 +62,8 @@ written x promised pages = record pages { entries = pages.entries ++ record { at
 core-pushed : (old new : Environment) (pages after : JournalSeen) (x : Entry) (k : ℕ) → IsCore old pages → after ≡ written x k pages
     → k ≡ reserved_journal new → length pages.entries + 1 + k ≤ pages.limit
     → new.heap.handles ≤ old.heap.handles + 1 → length new.heap.scope_numbers ≤ length old.heap.scope_numbers + 1 → length new.references.issued ≤ length old.references.issued + 1 → new.heap.made ≤ old.heap.made + 65537
-    → length new.book ≤ length old.book + 1 → IsHooked new → IsCore new after
-core-pushed old new pages after x k c e promised room handles scopes references made tickets hooked =
+    → length new.book ≤ length old.book + 1 → length new.promises.issued ≤ length old.promises.issued + 1 → IsHooked new → IsPromised new → IsCore new after
+core-pushed old new pages after x k c e promised room handles scopes references made tickets deferreds hooked fits =
     let P : JournalSeen → Type 0 = λ p. IsCore new p in
     let l : Local = record { at = pages.position; entry = x } in
     let grown : length (pages.entries ++ l ∷ []) ≡ length pages.entries + 1 = length-append pages.entries (l ∷ []) in
@@ -73,7 +76,9 @@ core-pushed old new pages after x k c e promised room handles scopes references 
       references = omega (arith, c.references, references, grown);
       tickets = omega (arith, c.tickets, tickets, grown);
       values = omega (arith, c.values, made, grown);
+      deferreds = omega (arith, c.deferreds, deferreds, grown);
       hooked = hooked;
+      promised = fits;
     })
 
 -- what a call keeps, by its entry
@@ -89,6 +94,11 @@ pub calls-hooked : (old new : Environment) (c : Call) (x : Entry) → Calls old 
 calls-hooked old new c x calls h =
     subst (λ (e : Environment). IsHooked e) (sym calls.after)
     (hooked-called old c (issued_number x.reply.out) (subst (λ (y : Entry). GivesNew old y) calls.entry calls.fresh) h)
+
+-- and that the deferreds fit the values
+pub calls-promised : (old new : Environment) (c : Call) (x : Entry) → Calls old c x new → IsPromised old → IsPromised new
+calls-promised old new c x calls h =
+    subst (λ (e : Environment). IsPromised e) (sym calls.after) (called-promised old c (issued_number x.reply.out) h)
 
 -- a call of a function withdraws nothing
 called-drops : (e : Environment) (receiver : Option HandleId) (f : HandleId) (args : Args) (n : ℕ) (early deep : Option Status)
@@ -121,14 +131,14 @@ places-kept old new pages c r core k =
     record { made = k.makes.places; dropped = omega (arith, law, core.reserved) }
 
 pub core-call_change : (old new : Environment) (pages after : JournalSeen) (c : Call) (x : Entry) (n : ℕ) → IsCore old pages → KeepsButAsk c old x.reply new
-    → IsHooked new
+    → IsHooked new → IsPromised new
     → length pages.entries + pages.promised + need c ≤ pages.limit
     → n + 2 * one_if (is_some x.reply.dropped) ≡ pages.promised + 2 * one_if (is_some x.reply.made) → after ≡ written x n pages → IsCore new after
-core-call_change old new pages after c x n core k hooked room left e =
+core-call_change old new pages after c x n core k hooked fits room left e =
     let law : reserved_journal new + 2 * one_if (is_some x.reply.dropped) ≡ reserved_journal old + 2 * one_if (is_some x.reply.made) = call-reserved old c x.reply new k in
     let places : 1 + 2 * one_if (is_some x.reply.made) ≤ need c = k.makes.places in
     core-pushed old new pages after x n core e (omega (arith, law, left, core.reserved)) (omega (arith, left, places, room)) k.heap.handles k.heap.scopes k.references k.heap.made
-    (step-length (caller_of old.frames) old.book x.reply.made x.reply.dropped new.book k.book) hooked
+    (step-length (caller_of old.frames) old.book x.reply.made x.reply.dropped new.book k.book) k.deferreds hooked fits
 
 -- the innermost frame, which no duty of the hub began, is one of those whose end stands in the journal
 length-left : (fs : List Frame) → fs ≢ [] → is_hub_duty (duty_of fs) ≡ false → length (local_frames (tail fs)) + 1 ≡ length (local_frames fs)
@@ -166,7 +176,9 @@ core-ended old new pages after x v cut c stands local h e =
     core-pushed old new pages after x (pages.promised - 1) c e (omega (arith, fewer, c.reserved)) (omega (arith, fewer, c.reserved, c.within))
     k.handles (omega (arith, ap length k.scope_numbers)) (omega (arith, ap (λ m. length m.issued) k.references)) (omega (arith, k.made))
     (omega (arith, ap length (left-parts old new k).book, length-book_left (cause_of old.frames) (duty_of old.frames) old.book))
+    (omega (arith, ap (λ (p : Promises). length p.issued) (left-parts old new k).promises))
     (subst (λ (s : Environment). IsHooked s) (sym h) (hooked-ended v cut old c.hooked))
+    (subst (λ (s : Environment). IsPromised s) (sym h) (ended-promised v cut old c.promised))
 
 -- THE FRAME OF A TICKET
 -- a ticket that begins had two places, and its begin fills one
@@ -208,7 +220,9 @@ core-begun old new pages after x n r c next there is e =
     (omega (arith, ap (λ (s : Environment). s.heap.handles) is)) (omega (arith, ap (λ (s : Environment). length s.heap.scope_numbers) is))
     (omega (arith, ap (λ (s : Environment). length s.references.issued) is)) (omega (arith, ap (λ (s : Environment). s.heap.made) is))
     (omega (arith, ap (λ (s : Environment). length s.book) is, length-changed_where (moved (begun_in old.phase)) (λ m. m == n) old.book))
+    (omega (arith, ap (λ (s : Environment). length s.promises.issued) is))
     (subst (λ (s : Environment). IsHooked s) (sym is) (hooked-begun n r old there may c.hooked))
+    (subst (λ (s : Environment). IsPromised s) (sym is) (still-promised old (ticket_change n r old).after refl refl c.promised))
 
 -- A PHASE STARTS
 length-in : (p : Phase) (book : Book) → length (book_in p book) ≡ length book
@@ -239,7 +253,9 @@ core-phase old new pages after p n c next stays is e =
       references = c.references;
       tickets = omega (arith, c.tickets, length-in p old.book);
       values = c.values;
+      deferreds = c.deferreds;
       hooked = hooked-phase p old next c.hooked;
+      promised = still-promised old (in_phase p old) refl refl c.promised;
     })
 
 -- WHAT A STEP TELLS

@@ -8,15 +8,17 @@ use Rattle.napi_types.specs.plain.Lists.{has_number}
 use Rattle.napi_types.specs.parts.Attachments.{Wrapped, Tagged, Attached, Attachments, left_on, is_attached_to}
 use Rattle.napi_types.specs.parts.Book.{Book, due_where}
 use Rattle.napi_types.specs.parts.Graph.{StoreState, IsSoundStore, IsLive, number_in}
+use Rattle.napi_types.specs.parts.Promises.{Promise, Deferred, Promises, promises_left}
 use Rattle.napi_types.specs.environment.Collection.{is_freed}
 use Rattle.napi_types.proofs.plain.Found.{passing, map-rising}
 use Rattle.napi_types.proofs.plain.Lists.{any-map}
 use Rattle.wrap_tag.proofs.Dues.{due_where-same}
 use Rattle.env_registry.specs.KeptRegistry.{AreOnce}
+use Rattle.env_core.specs.Promising.{seen_promise, seen_deferred, promises_seen, PromisesAreLive}
 use Rattle.env_core.specs.Attaching.{seen_wrap, seen_tag, seen_attached, attachments_seen, AreAttachedToLive}
 use Rattle.env_core.proofs.Attaching.{number-apart}
 use Rattle.env_core.proofs.Collecting.{FreesOthers, stays-live, stays-number}
-use Rattle.env_core.proofs.Renaming.{listed-filter, seen-filter, list_any-seen}
+use Rattle.env_core.proofs.Renaming.{any-filter, listed-filter, seen-filter, list_any-seen}
 
 -- TESTS ON LISTS
 any-same : {A : Type 0} (p q : A → Bool) (xs : List A) → All (λ x. p x ≡ q x) xs → list_any p xs ≡ list_any q xs
@@ -41,15 +43,6 @@ any-filter_map p g q (x ∷ xs) = by (q x) (any-filter_map p g q xs)
     by : (b : Bool) → list_any p (filter_map g (filter q xs)) ≡ list_any (λ y. q y && holds_of p (g y)) xs
         → list_any p (filter_map g (cond b (x ∷ filter q xs) (filter q xs))) ≡ ((b && holds_of p (g x)) || list_any (λ y. q y && holds_of p (g y)) xs)
     by true rest = first (g x) rest
-    by false rest = rest
-
-any-filter : {A : Type 0} (p : ℕ → Bool) (f : A → ℕ) (q : A → Bool) (xs : List A) → list_any p (map f (filter q xs)) ≡ list_any (λ x. q x && p (f x)) xs
-any-filter p f q [] = refl
-any-filter p f q (x ∷ xs) = by (q x) (any-filter p f q xs)
-  where
-    by : (b : Bool) → list_any p (map f (filter q xs)) ≡ list_any (λ y. q y && p (f y)) xs
-        → list_any p (map f (cond b (x ∷ filter q xs) (filter q xs))) ≡ ((b && p (f x)) || list_any (λ y. q y && p (f y)) xs)
-    by true rest = ap (λ b. p (f x) || b) rest
     by false rest = rest
 
 -- WHAT IS FREED
@@ -133,4 +126,44 @@ module _ (s t : StoreState) (ids freed alive : List ℕ) (c : FreesOthers s t id
     wraps = live-left (λ (w : Wrapped). w.value) a.wraps i.wraps;
     tags = live-left (λ (w : Tagged). w.value) a.tags i.tags;
     tickets = live-left (λ (w : Attached). w.value) a.tickets i.tickets;
+  }
+
+-- THE PROMISES
+module _ (s t : StoreState) (ids freed alive : List ℕ) (c : FreesOthers s t ids freed alive) (sound : IsSoundStore s) (p : Promises) (i : PromisesAreLive s p) where
+  freed-not : (id : ℕ) → not (has_number id freed) ≡ true → has_number id freed ≡ false
+  freed-not id is = not-true (has_number id freed) is
+
+  stays-told : {A : Type 0} (value : A → ℕ) (xs : List A) → All (λ x. IsLive s (value x)) xs
+      → All (λ x. not (is_freed alive (number_in s (value x))) ≡ not (has_number (value x) freed)) xs
+  stays-told value xs live = λ k x inside. ap not (sym (c.told (value (get_or xs k x)) (live k x inside)))
+
+  stays-seen : {A : Type 0} (value : A → ℕ) (see new : A → A) (xs : List A) → ((x : A) → number_in t (value x) ≡ number_in s (value x) → new x ≡ see x)
+      → All (λ x. not (has_number (value x) freed) ≡ true → new x ≡ see x) xs
+  stays-seen value see new xs same =
+      λ k x inside stays. same (get_or xs k x) (stays-number s t ids freed alive c (value (get_or xs k x)) (freed-not (value (get_or xs k x)) stays))
+
+  pub promises-left : promises_seen t (promises_left (λ v. has_number v freed) p) ≡ promises_left (is_freed alive) (promises_seen s p)
+  promises-left =
+      let stays : ℕ → Bool = λ v. not (has_number v freed) in
+      let lives : ℕ → Bool = λ n. not (is_freed alive n) in
+      let promises = seen-filter (λ (r : Promise). r.value) (number_in s) (seen_promise s) (λ r. refl) (IsLive s) (number-apart s sound) (seen_promise t) stays lives
+      p.promises (stays-told (λ (r : Promise). r.value) p.promises i.promises)
+      (stays-seen (λ (r : Promise). r.value) (seen_promise s) (seen_promise t) p.promises (λ r same. ap (λ n. record r { value = n }) same)) in
+      let deferreds = listed-filter (λ (d : Deferred). d.promise) (number_in s) (seen_deferred s) (λ d. refl) (IsLive s) (number-apart s sound) (seen_deferred t) stays lives
+      p.deferreds (stays-told (λ (d : Deferred). d.promise) p.deferreds i.deferreds)
+      (stays-seen (λ (d : Deferred). d.promise) (seen_deferred s) (seen_deferred t) p.deferreds (λ d same. ap (λ n. record d { promise = n }) same)) in
+      let there : Promises = promises_left (is_freed alive) (promises_seen s p) in
+      ap (λ l. record { promises = l; deferreds = map (seen_deferred t) (filter (λ d. not (has_number d.promise freed)) p.deferreds); issued = p.issued }) promises
+      ∙ ap (λ l. record { promises = there.promises; deferreds = l; issued = p.issued }) deferreds
+
+  left-stay : {A : Type 0} (value : A → ℕ) (xs : List A) → All (λ x. IsLive s (value x)) xs → All (λ x. IsLive t (value x)) (filter (λ x. not (has_number (value x) freed)) xs)
+  left-stay {A = A} value xs live =
+      let stays : A → Bool = λ x. not (has_number (value x) freed) in
+      λ k x inside. stays-live s t ids freed alive c (value (get_or (filter stays xs) k x)) (freed-not (value (get_or (filter stays xs) k x)) (passing value stays xs k x inside))
+      (All-filter stays (λ y. IsLive s (value y)) xs live k x inside)
+
+  pub promised-left : PromisesAreLive t (promises_left (λ v. has_number v freed) p)
+  promised-left = record {
+    promises = left-stay (λ (r : Promise). r.value) p.promises i.promises;
+    deferreds = left-stay (λ (d : Deferred). d.promise) p.deferreds i.deferreds;
   }

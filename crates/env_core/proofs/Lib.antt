@@ -11,6 +11,8 @@ pub mod Ending
 pub mod Freeing
 pub mod Knowing
 pub mod Looking
+pub mod PromiseAnswers
+pub mod Promising
 pub mod OwnRefusals
 pub mod Referring
 pub mod Registered

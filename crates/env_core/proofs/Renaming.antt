@@ -1,5 +1,5 @@
 -- Finite maps whose numbers are renamed, by a renaming that keeps the numbers of some kind apart.
-use Rattle.std.proofs.Common.{◌≡◌, ◌∙◌, ℕ, ◌<◌, ◌==◌, nat_lt, ◌||◌, Bool, true, false, cond, List, [], ◌∷◌, map, filter, Option, Some, None, is_some, option_map, refl, ap, sym}
+use Rattle.std.proofs.Common.{◌≡◌, ◌∙◌, ℕ, ◌<◌, ◌==◌, nat_lt, ◌&&◌, ◌||◌, Bool, true, false, cond, List, [], ◌∷◌, map, filter, Option, Some, None, is_some, option_map, refl, ap, sym}
 use Rattle.std.specs.List.{All, list_any}
 use Rattle.std.specs.Option.{option_or}
 use Rattle.std.proofs.lemmas.Bool.{ltb-true}
@@ -8,6 +8,16 @@ use Rattle.std.proofs.lemmas.List.Elements.{All-head, All-tail, All-filter}
 use Rattle.napi_types.specs.plain.Lists.{found, has, with_record, as_map}
 use Rattle.napi_types.proofs.plain.Found.{same-tells, same-self, IsRising, apart-below, found-above, found-later, found-append, found-as_map, has-found, passing, rising-as_map, found-same, map-rising, as_map-filter, parts-rising}
 use Rattle.napi_types.proofs.plain.Maps.{list_any-with_record}
+
+-- a test of what records that pass another test tell is one of the records
+pub any-filter : {A : Type 0} (p : ℕ → Bool) (f : A → ℕ) (q : A → Bool) (xs : List A) → list_any p (map f (filter q xs)) ≡ list_any (λ x. q x && p (f x)) xs
+any-filter p f q [] = refl
+any-filter p f q (x ∷ xs) = by (q x) (any-filter p f q xs)
+  where
+    by : (b : Bool) → list_any p (map f (filter q xs)) ≡ list_any (λ y. q y && p (f y)) xs
+        → list_any p (map f (cond b (x ∷ filter q xs) (filter q xs))) ≡ ((b && p (f x)) || list_any (λ y. q y && p (f y)) xs)
+    by true rest = ap (λ b. p (f x) || b) rest
+    by false rest = rest
 
 -- the renaming keeps the numbers of this kind apart, and `see` renames a record
 module _ {A : Type 0} (number : A → ℕ) (rename : ℕ → ℕ) (see : A → A) (renames : (x : A) → number (see x) ≡ rename (number x))

@@ -6,7 +6,8 @@ use Rattle.std.proofs.lemmas.List.Elements.{filter_map-append, All-nil, All-cons
 use Rattle.std.proofs.lemmas.List.Folds.{list_any-append}
 use Rattle.std.specs.Option.{option_to_list}
 use Rattle.napi_types.specs.plain.Lists.{has_number, HaveSameNumbers}
-use Rattle.napi_types.specs.parts.Graph.{StoreState, IsLive, number_in}
+use Rattle.napi_types.specs.parts.Graph.{StoreState, IsSoundStore, IsLive, number_in}
+use Rattle.napi_types.specs.parts.Promises.{Promises, promise_roots}
 use Rattle.napi_types.specs.parts.Reach.{numbers}
 use Rattle.napi_types.specs.parts.References.{Reference, ReferenceMap, strong_value, strong_values}
 use Rattle.napi_types.specs.parts.Scopes.{OpenHandle, Scope, FrameScopes, held_by_scopes, held_by_frame, held_by_frames}
@@ -23,8 +24,11 @@ use Rattle.napi_reference.proofs.KeepingReferences.{strong_values-AllValues}
 use Rattle.trace_collect.specs.Collects.{HoldsStarting}
 use Rattle.env_core.specs.TsfnRooting.{tsfn_roots_seen, RootsAreLive}
 use Rattle.env_core.specs.Referring.{seen_reference, references_seen, RefersToLive}
+use Rattle.deferred.specs.KeptPromises.{AreMaps}
+use Rattle.env_core.specs.Promising.{promises_seen, PromisesAreLive}
 use Rattle.env_core.specs.Rooting.{AreStarting, AreRoots, held_values}
 use Rattle.env_core.specs.State.{pending_seen}
+use Rattle.env_core.proofs.Promising.{promise_roots-seen, promise_roots-live}
 use Rattle.env_core.proofs.TsfnRooting.{values-seen}
 
 -- THE SAME NUMBERS
@@ -50,10 +54,20 @@ pub same-holds : (P : ℕ → Type 0) (ms ns : List ℕ) → HaveSameNumbers ms 
 same-holds P ms ns same all = all-among P ns (λ n here. among-holds P ms n all (same n ∙ here))
 
 -- THE MACHINE'S ROOTS
--- the environment with these values, scopes, references, roots of functions and pending exception
-abbrev pub whole_environment : Environment → StoreState → HandleScopes → ReferenceMap → List TsfnRoot → Option ℕ → Environment
-whole_environment e s scopes m rs p =
-    record e { heap = heap_of s scopes; references = references_seen s m; tsfn_roots = tsfn_roots_seen s rs; pending = pending_seen s p }
+-- the environment with these values, scopes, references, roots of functions, pending exception and promises
+abbrev pub whole_environment : Environment → StoreState → HandleScopes → ReferenceMap → List TsfnRoot → Option ℕ → Promises → Environment
+whole_environment e s scopes m rs p ps = record e {
+  heap = heap_of s scopes;
+  references = references_seen s m;
+  tsfn_roots = tsfn_roots_seen s rs;
+  pending = pending_seen s p;
+  promises = promises_seen s ps;
+}
+
+-- the roots but the promises
+abbrev plain_roots : Environment → List ℕ
+plain_roots e =
+    numbers starting_values ++ map (λ h. h.value) (held_by_frames e.heap.scopes) ++ strong_values e.references ++ map (λ r. r.value) e.tsfn_roots ++ option_to_list e.pending
 
 abbrev root_values : List TsfnRoot → List ℕ
 root_values rs = map (λ r. r.value) rs
@@ -105,10 +119,12 @@ module _ (s : StoreState) where
   pending-at None = refl
   pending-at (Some v) = refl
 
-  -- the roots in the order of the machine
-  in-order : (e : Environment) (scopes : HandleScopes) (m : ReferenceMap) (rs : List TsfnRoot) (p : Option ℕ) (starting : List ℕ) → AreStarting s starting
-      → map (number_in s) (starting ++ held_values scopes ++ strong_values m ++ root_values rs ++ option_to_list p) ≡ roots (whole_environment e s scopes m rs p)
-  in-order e scopes m rs p starting are =
+  -- the roots but the promises, in the order of the machine
+  in-order : (e : Environment) (scopes : HandleScopes) (m : ReferenceMap) (rs : List TsfnRoot) (p : Option ℕ) (ps : Promises) (starting : List ℕ)
+      → AreStarting s starting
+      → map (number_in s) (starting ++ held_values scopes ++ strong_values m ++ root_values rs ++ option_to_list p)
+      ≡ plain_roots (whole_environment e s scopes m rs p ps)
+  in-order e scopes m rs p ps starting are =
       let n : List ℕ → List ℕ = map (number_in s) in
       let first : List ℕ = numbers starting_values in
       let held : List ℕ = held_values scopes in
@@ -127,12 +143,17 @@ module _ (s : StoreState) where
       ∙ ap (λ l. first ++ seen ++ strong_values (references_seen s m) ++ root_values (tsfn_roots_seen s rs) ++ l) (sym (pending-at p))
 
   -- and in any order
-  pub roots-seen : (e : Environment) (scopes : HandleScopes) (m : ReferenceMap) (rs : List TsfnRoot) (p : Option ℕ) (ids : List ℕ)
-      → AreRoots s scopes m rs p ids
-      → HaveSameNumbers (map (number_in s) ids) (roots (whole_environment e s scopes m rs p))
-  roots-seen e scopes m rs p ids r =
-      λ n. same-mapped (number_in s) ids (r.starting ++ held_values scopes ++ strong_values m ++ root_values rs ++ option_to_list p) r.are n
-      ∙ ap (has_number n) (in-order e scopes m rs p r.starting r.are_starting)
+  pub roots-seen : (e : Environment) (scopes : HandleScopes) (m : ReferenceMap) (rs : List TsfnRoot) (p : Option ℕ) (ps : Promises) (ids : List ℕ)
+      → IsSoundStore s → PromisesAreLive s ps → AreMaps ps → AreRoots s scopes m rs p ps ids
+      → HaveSameNumbers (map (number_in s) ids) (roots (whole_environment e s scopes m rs p ps))
+  roots-seen e scopes m rs p ps ids sound live maps r =
+      let first : List ℕ = r.starting ++ held_values scopes ++ strong_values m ++ root_values rs ++ option_to_list p in
+      let last : List ℕ = promise_roots ps in
+      λ n. same-mapped (number_in s) ids (first ++ last) r.are n
+      ∙ ap (has_number n) (map-append (number_in s) first last)
+      ∙ ap (λ l. has_number n (l ++ map (number_in s) last)) (in-order e scopes m rs p ps r.starting r.are_starting)
+      ∙ same-after (plain_roots (whole_environment e s scopes m rs p ps)) (map (number_in s) last) (promise_roots (promises_seen s ps))
+      (promise_roots-seen s sound ps live maps) n
 
 -- the starting values are among them
 starts-with : (which : ℕ) (ns : List ℕ) → which < 5 → has_number (which + 1) (numbers starting_values ++ ns) ≡ true
@@ -143,12 +164,12 @@ starts-with (suc (suc (suc zero))) ns h = refl
 starts-with (suc (suc (suc (suc zero)))) ns h = refl
 starts-with (suc (suc (suc (suc (suc which))))) ns h = absurd (omega (arith, h))
 
-pub roots-start : (s : StoreState) (scopes : HandleScopes) (m : ReferenceMap) (rs : List TsfnRoot) (p : Option ℕ) (ids : List ℕ)
-    → AreRoots s scopes m rs p ids → HoldsStarting s ids
-roots-start s scopes m rs p ids r which h =
+pub roots-start : (s : StoreState) (scopes : HandleScopes) (m : ReferenceMap) (rs : List TsfnRoot) (p : Option ℕ) (ps : Promises) (ids : List ℕ)
+    → AreRoots s scopes m rs p ps ids → HoldsStarting s ids
+roots-start s scopes m rs p ps ids r which h =
     let n : List ℕ → List ℕ = map (number_in s) in
-    let rest : List ℕ = held_values scopes ++ (strong_values m ++ (root_values rs ++ option_to_list p)) in
-    let all : List ℕ = r.starting ++ held_values scopes ++ strong_values m ++ root_values rs ++ option_to_list p in
+    let rest : List ℕ = held_values scopes ++ (strong_values m ++ (root_values rs ++ (option_to_list p ++ promise_roots ps))) in
+    let all : List ℕ = r.starting ++ held_values scopes ++ strong_values m ++ root_values rs ++ option_to_list p ++ promise_roots ps in
     let are : all ≡ r.starting ++ rest = simp append_assoc in
     let seen : n all ≡ numbers starting_values ++ n rest = ap n are ∙ map-append (number_in s) r.starting rest ∙ ap (λ l. l ++ n rest) r.are_starting.numbers_are in
     same-mapped (number_in s) ids all r.are (which + 1) ∙ ap (has_number (which + 1)) seen ∙ starts-with which (n rest) h
@@ -224,23 +245,29 @@ pending-live s None live = All-nil (IsLive s)
 pending-live s (Some v) live = All-cons (IsLive s) v [] live (All-nil (IsLive s))
 
 -- what was gathered are the roots
-pub gathered : (s : StoreState) (scopes : HandleScopes) (m : ReferenceMap) (rs : List TsfnRoot) (p : Option ℕ) (first second third fourth ids : List ℕ)
-    → HoldsLive s scopes → RefersToLive s m
-    → RootsAreLive s rs → IfSome p (IsLive s) → AreStarting s first → second ≡ first ++ held_values scopes → HaveSameNumbers third (second ++ strong_values m) → fourth ≡ third ++ root_values rs
-    → ids ≡ fourth ++ option_to_list p → AreRoots s scopes m rs p ids
-gathered s scopes m rs p first second third fourth ids held referred rooted pending start a b c d =
+pub gathered : (s : StoreState) (scopes : HandleScopes) (m : ReferenceMap) (rs : List TsfnRoot) (p : Option ℕ) (ps : Promises)
+    (first second third fourth fifth ids : List ℕ)
+    → HoldsLive s scopes → RefersToLive s m → RootsAreLive s rs → IfSome p (IsLive s) → PromisesAreLive s ps → AreStarting s first
+    → second ≡ first ++ held_values scopes → HaveSameNumbers third (second ++ strong_values m) → fourth ≡ third ++ root_values rs
+    → fifth ≡ fourth ++ option_to_list p → HaveSameNumbers ids (fifth ++ promise_roots ps) → AreRoots s scopes m rs p ps ids
+gathered s scopes m rs p ps first second third fourth fifth ids held referred rooted pending promised start a b c d e =
     let L : ℕ → Type 0 = IsLive s in
+    let last : List ℕ = promise_roots ps in
     let outer : List ℕ = first ++ held_values scopes ++ strong_values m in
-    let all : List ℕ = outer ++ root_values rs ++ option_to_list p in
-    let are : HaveSameNumbers ids all =
+    let most : List ℕ = outer ++ root_values rs ++ option_to_list p in
+    let all : List ℕ = most ++ last in
+    let but_promises : HaveSameNumbers fifth most =
     λ n. ap (has_number n) (d ∙ ap (λ l. l ++ option_to_list p) c)
     ∙ same-before (option_to_list p) (third ++ root_values rs) (second ++ strong_values m ++ root_values rs) (same-before (root_values rs) third (second ++ strong_values m) b) n
     ∙ ap (λ l. has_number n (l ++ strong_values m ++ root_values rs ++ option_to_list p)) a in
+    let are : HaveSameNumbers ids all = λ n. e n ∙ same-before last fifth most but_promises n in
     let live : All L all =
-    All-append L (outer ++ root_values rs) (option_to_list p)
+    All-append L most last
+    (All-append L (outer ++ root_values rs) (option_to_list p)
     (All-append L outer (root_values rs)
     (All-append L (first ++ held_values scopes) (strong_values m)
     (All-append L first (held_values scopes) start.live (All-map L (λ (h : OpenHandle). h.value) (held_by_frames scopes.frames) held))
     (strong_values-AllValues L m referred))
-    (All-map L (λ (r : TsfnRoot). r.value) rs rooted)) (pending-live s p pending) in
+    (All-map L (λ (r : TsfnRoot). r.value) rs rooted)) (pending-live s p pending))
+    (promise_roots-live s ps promised) in
     record { starting = first; are_starting = start; are = are; live = same-holds L all ids (λ n. sym (are n)) live }

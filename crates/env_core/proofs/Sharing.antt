@@ -13,10 +13,12 @@ use Rattle.napi_types.specs.parts.Book.{owed_tickets}
 use Rattle.napi_types.specs.environment.Changes.{with_noted_status, with_none_waiting}
 use Rattle.napi_types.specs.environment.Environment.{Environment, TsfnRoot}
 use Rattle.napi_types.specs.environment.Hooked.{IsHooked}
+use Rattle.napi_types.specs.environment.Promised.{IsPromised}
 use Rattle.napi_types.specs.environment.JournalRoom.{gone_place, reserved_journal}
 use Rattle.napi_types.specs.environment.SharedCalls.{with_root, without_root, after_shared}
 use Rattle.napi_types.proofs.environment.AnswersKeep.{local-counted}
 use Rattle.napi_types.proofs.environment.HookedSteps.{unchanged, hooked-abandoned}
+use Rattle.napi_types.proofs.environment.Promised.{still-promised}
 use Rattle.env_core.specs.Core.{IsCore}
 use Rattle.env_core.specs.Journal.{JournalSeen}
 use Rattle.env_core.specs.Sharing.{MayAwait}
@@ -40,7 +42,9 @@ pub record KeepsCounted (old new : Environment) : Type 0 where
   pub references : new.references.issued ≡ old.references.issued
   pub tickets : length new.book ≡ length old.book
   pub values : new.heap.made ≡ old.heap.made
+  pub deferreds : new.promises.issued ≡ old.promises.issued
   pub hooked : IsHooked old → IsHooked new
+  pub promised : IsPromised old → IsPromised new
 
 pub core-shared : (old new : Environment) (pages after : JournalSeen) (n : ℕ) → IsCore old pages → KeepsCounted old new
     → after ≡ record pages { position = n } → IsCore new after
@@ -53,7 +57,9 @@ core-shared old new pages after n c k e = subst (λ (p : JournalSeen). IsCore ne
   references = omega (arith, c.references, ap length k.references);
   tickets = omega (arith, c.tickets, k.tickets);
   values = omega (arith, c.values, k.values);
+  deferreds = omega (arith, c.deferreds, ap length k.deferreds);
   hooked = k.hooked c.hooked;
+  promised = k.promised c.promised;
 })
 
 -- the same places are owed where the frames owe the same
@@ -63,8 +69,28 @@ places_with e n = one_if (not e.opened) + gone_place e.phase + 2 * (e.addons - e
 -- a shared call that the hub answered
 rooted-keeps : (c : Call) (o : Out) (e : Environment) → KeepsCounted e (with_root c o e)
 rooted-keeps (call.CreateThreadsafeFunction (Some f) entry maximum count finalizer context) (out.Function n) e =
-    record { reserved = refl; handles = refl; scopes = refl; references = refl; tickets = refl; values = refl; hooked = λ h. unchanged e _ refl refl h }
-rooted-keeps _ _ e = record { reserved = refl; handles = refl; scopes = refl; references = refl; tickets = refl; values = refl; hooked = λ h. h }
+    record {
+      reserved = refl;
+      handles = refl;
+      scopes = refl;
+      references = refl;
+      tickets = refl;
+      values = refl;
+      deferreds = refl;
+      hooked = λ h. unchanged e _ refl refl h;
+      promised = λ h. still-promised e _ refl refl h;
+    }
+rooted-keeps _ _ e = record {
+  reserved = refl;
+  handles = refl;
+  scopes = refl;
+  references = refl;
+  tickets = refl;
+  values = refl;
+  deferreds = refl;
+  hooked = λ h. h;
+  promised = λ h. h;
+}
 
 noted-keeps : (c : Call) (s : Status) (e : Environment) → KeepsCounted e (with_noted_status c s e)
 noted-keeps c s e = record {
@@ -74,7 +100,9 @@ noted-keeps c s e = record {
   references = refl;
   tickets = refl;
   values = refl;
+  deferreds = refl;
   hooked = λ h. unchanged e _ refl refl h;
+  promised = λ h. still-promised e _ refl refl h;
 }
 
 keeps-then : (a b c : Environment) → KeepsCounted a b → KeepsCounted b c → KeepsCounted a c
@@ -85,7 +113,9 @@ keeps-then a b c first next = record {
   references = next.references ∙ first.references;
   tickets = next.tickets ∙ first.tickets;
   values = next.values ∙ first.values;
+  deferreds = next.deferreds ∙ first.deferreds;
   hooked = λ h. next.hooked (first.hooked h);
+  promised = λ h. next.promised (first.promised h);
 }
 
 pub answered-keeps : (c : Call) (r : Reply) (e : Environment) → KeepsCounted e (after_shared c r e)
@@ -93,7 +123,17 @@ answered-keeps c r e = keeps-then e (with_root c r.out e) (after_shared c r e) (
 
 -- a thread-safe function has finished
 pub finished-keeps : (n : ℕ) (e : Environment) → KeepsCounted e (without_root n e)
-finished-keeps n e = record { reserved = refl; handles = refl; scopes = refl; references = refl; tickets = refl; values = refl; hooked = λ h. unchanged e _ refl refl h }
+finished-keeps n e = record {
+  reserved = refl;
+  handles = refl;
+  scopes = refl;
+  references = refl;
+  tickets = refl;
+  values = refl;
+  deferreds = refl;
+  hooked = λ h. unchanged e _ refl refl h;
+  promised = λ h. still-promised e _ refl refl h;
+}
 
 -- its root goes, so there is room as before
 pub finished-may : (n : ℕ) (e : Environment) (room : ℕ) (a : Option SharedCall) → MayAwait e room a → MayAwait (without_root n e) room a
@@ -112,7 +152,17 @@ finished-may n e room (Some s) may = record {
 
 -- the hooks that wait are abandoned
 pub abandoned-keeps : (e : Environment) → KeepsCounted e (with_none_waiting e)
-abandoned-keeps e = record { reserved = refl; handles = refl; scopes = refl; references = refl; tickets = refl; values = refl; hooked = hooked-abandoned e }
+abandoned-keeps e = record {
+  reserved = refl;
+  handles = refl;
+  scopes = refl;
+  references = refl;
+  tickets = refl;
+  values = refl;
+  deferreds = refl;
+  hooked = hooked-abandoned e;
+  promised = λ h. still-promised e _ refl refl h;
+}
 
 pub abandoned-may : (e : Environment) (room : ℕ) (a : Option SharedCall) → MayAwait e room a → MayAwait (with_none_waiting e) room a
 abandoned-may e room None may = tt

@@ -1,5 +1,5 @@
 -- A call on values, properties or elements gives no number of its own choice.
-use Rattle.std.proofs.Common.{◌≡◌, ℕ, true, List, [], ◌∷◌, length, map, refl, ap, sym, subst, ◌∙◌, Option, Some, None, Result, Ok, Err, IfOk, OnOk, OnErr, IfSome}
+use Rattle.std.proofs.Common.{◌≡◌, ℕ, true, List, [], ◌∷◌, length, map, refl, ap, sym, ◌∙◌, Option, Some, None, Result, Ok, Err, IfOk, OnOk, OnErr, IfSome}
 use Rattle.std.specs.List.{All}
 use Rattle.std.proofs.lemmas.List.{length-map}
 use Rattle.std.proofs.lemmas.List.Elements.{All-nil, All-cons, All-head, All-tail}
@@ -16,6 +16,7 @@ use Rattle.napi_types.specs.parts.Graph.{StoreState, IsLive}
 use Rattle.napi_types.specs.parts.Heap.{Heap}
 use Rattle.napi_types.specs.parts.HeapCalls.{addon_effect, heap_answer_unless, heap_answer}
 use Rattle.napi_types.specs.parts.HeapRefusals.{refusal_in}
+use Rattle.napi_types.specs.parts.Promises.{Promises}
 use Rattle.napi_types.specs.parts.References.{Reference, ReferenceMap}
 use Rattle.napi_types.specs.environment.Calls.{effect, answer_unless}
 use Rattle.napi_types.specs.environment.Changes.{is_fresh_result, issued_number}
@@ -28,6 +29,8 @@ use Rattle.handle_scope.specs.HandleScopes.{HandleScopes}
 use Rattle.env_values.specs.SeenValues.{seen_frame, heap_of, KeepsValues}
 use Rattle.env_core.specs.Attaching.{attachments_seen, AreAttachedToLive}
 use Rattle.env_core.proofs.Attaching.{attachments-kept}
+use Rattle.env_core.specs.Promising.{promises_seen, PromisesAreLive}
+use Rattle.env_core.proofs.Promising.{promises-kept}
 use Rattle.env_core.specs.TsfnRooting.{tsfn_roots_seen, RootsAreLive}
 use Rattle.env_core.proofs.TsfnRooting.{roots-kept}
 use Rattle.env_core.specs.Referring.{seen_reference, references_seen, RefersToLive}
@@ -139,25 +142,51 @@ rows-kept s t (r ∷ rs) kept live =
 pub references-kept : (s t : StoreState) (m : ReferenceMap) → KeepsValues s t → RefersToLive s m → references_seen t m ≡ references_seen s m
 references-kept s t m kept live = ap (λ l. record m { rows = l }) (rows-kept s t m.rows kept live)
 
+-- an environment, with all that names values as it is seen in this store
+abbrev pub seen_by : Environment → StoreState → HandleScopes → ReferenceMap → List TsfnRoot → Attachments → Option ℕ → Promises → Environment
+seen_by e s scopes m rs a p ps = record e {
+  heap = heap_of s scopes;
+  references = references_seen s m;
+  attachments = attachments_seen s a;
+  promises = promises_seen s ps;
+  tsfn_roots = tsfn_roots_seen s rs;
+  pending = pending_seen s p;
+}
+
+-- an environment is the same where the store keeps its values, but for the heap and the promises
+pub same-parts : (e : Environment) (s t : StoreState) (m : ReferenceMap) (rs : List TsfnRoot) (a : Attachments) (p : Option ℕ)
+    → KeepsValues s t → RefersToLive s m → RootsAreLive s rs → AreAttachedToLive s a → IfSome p (IsLive s)
+    → record e { references = references_seen t m; attachments = attachments_seen t a; tsfn_roots = tsfn_roots_seen t rs; pending = pending_seen t p }
+    ≡ record e { references = references_seen s m; attachments = attachments_seen s a; tsfn_roots = tsfn_roots_seen s rs; pending = pending_seen s p }
+same-parts e s t m rs a p kept live rooted attached alive =
+    let seen : ReferenceMap → Attachments → List TsfnRoot → Option ℕ → Environment =
+    λ l x f q. record e { references = l; attachments = x; tsfn_roots = f; pending = q } in
+    ap (λ l. seen l (attachments_seen t a) (tsfn_roots_seen t rs) (pending_seen t p)) (references-kept s t m kept live)
+    ∙ ap (λ x. seen (references_seen s m) x (tsfn_roots_seen t rs) (pending_seen t p)) (attachments-kept s t kept a attached)
+    ∙ ap (λ f. seen (references_seen s m) (attachments_seen s a) f (pending_seen t p)) (roots-kept s t rs kept rooted)
+    ∙ ap (λ q. seen (references_seen s m) (attachments_seen s a) (tsfn_roots_seen s rs) q) (pending-kept s t p kept alive)
+
 -- where the heap is seen as it was, so is all that names its values
 pub same-seen : (e : Environment) (s t : StoreState) (old new : HandleScopes) (m : ReferenceMap) (rs : List TsfnRoot) (a : Attachments) (p : Option ℕ)
-    → KeepsValues s t → RefersToLive s m
-    → RootsAreLive s rs → AreAttachedToLive s a → IfSome p (IsLive s) → heap_of t new ≡ heap_of s old
-    → record e { heap = heap_of t new; references = references_seen t m; attachments = attachments_seen t a; tsfn_roots = tsfn_roots_seen t rs; pending = pending_seen t p }
-    ≡ record e { heap = heap_of s old; references = references_seen s m; attachments = attachments_seen s a; tsfn_roots = tsfn_roots_seen s rs; pending = pending_seen s p }
-same-seen e s t old new m rs a p kept live rooted attached alive same =
-    let seen : Heap → ReferenceMap → Attachments → List TsfnRoot → Option ℕ → Environment =
-    λ h l x f q. record e { heap = h; references = l; attachments = x; tsfn_roots = f; pending = q } in
-    ap (λ h. seen h (references_seen t m) (attachments_seen t a) (tsfn_roots_seen t rs) (pending_seen t p)) same
-    ∙ ap (λ l. seen (heap_of s old) l (attachments_seen t a) (tsfn_roots_seen t rs) (pending_seen t p)) (references-kept s t m kept live)
-    ∙ ap (λ x. seen (heap_of s old) (references_seen s m) x (tsfn_roots_seen t rs) (pending_seen t p)) (attachments-kept s t kept a attached)
-    ∙ ap (λ f. seen (heap_of s old) (references_seen s m) (attachments_seen s a) f (pending_seen t p)) (roots-kept s t rs kept rooted)
-    ∙ ap (λ q. seen (heap_of s old) (references_seen s m) (attachments_seen s a) (tsfn_roots_seen s rs) q) (pending-kept s t p kept alive)
+    (ps : Promises) → KeepsValues s t → RefersToLive s m
+    → RootsAreLive s rs → AreAttachedToLive s a → IfSome p (IsLive s) → PromisesAreLive s ps → heap_of t new ≡ heap_of s old
+    → seen_by e t new m rs a p ps ≡ seen_by e s old m rs a p ps
+same-seen e s t old new m rs a p ps kept live rooted attached alive promised same =
+    let seen : Heap → ReferenceMap → Attachments → List TsfnRoot → Option ℕ → Promises → Environment =
+    λ h l x f q k. record e { heap = h; references = l; attachments = x; promises = k; tsfn_roots = f; pending = q } in
+    let ks : Promises = promises_seen t ps in
+    ap (λ h. seen h (references_seen t m) (attachments_seen t a) (tsfn_roots_seen t rs) (pending_seen t p) ks) same
+    ∙ ap (λ l. seen (heap_of s old) l (attachments_seen t a) (tsfn_roots_seen t rs) (pending_seen t p) ks) (references-kept s t m kept live)
+    ∙ ap (λ x. seen (heap_of s old) (references_seen s m) x (tsfn_roots_seen t rs) (pending_seen t p) ks) (attachments-kept s t kept a attached)
+    ∙ ap (λ f. seen (heap_of s old) (references_seen s m) (attachments_seen s a) f (pending_seen t p) ks) (roots-kept s t rs kept rooted)
+    ∙ ap (λ q. seen (heap_of s old) (references_seen s m) (attachments_seen s a) (tsfn_roots_seen s rs) q ks) (pending-kept s t p kept alive)
+    ∙ ap (λ k. seen (heap_of s old) (references_seen s m) (attachments_seen s a) (tsfn_roots_seen s rs) (pending_seen s p) k) (promises-kept s t kept ps promised)
 
 -- a call that finds no memory leaves what the machine sees
-pub stopped-same : {A E : Type 0} (e : Environment) (s t : StoreState) (old new : HandleScopes) (m : ReferenceMap) (rs : List TsfnRoot) (a : Attachments) (p : Option ℕ) (r : Result A E)
-    → KeepsValues s t → RefersToLive s m → RootsAreLive s rs → AreAttachedToLive s a → IfSome p (IsLive s) → OnErr r (heap_of t new ≡ heap_of s old)
-    → OnErr r (record e { heap = heap_of t new; references = references_seen t m; attachments = attachments_seen t a; tsfn_roots = tsfn_roots_seen t rs; pending = pending_seen t p }
-    ≡ record e { heap = heap_of s old; references = references_seen s m; attachments = attachments_seen s a; tsfn_roots = tsfn_roots_seen s rs; pending = pending_seen s p })
-stopped-same e s t old new m rs a p (Ok x) kept live rooted attached alive same = tt
-stopped-same e s t old new m rs a p (Err x) kept live rooted attached alive same = same-seen e s t old new m rs a p kept live rooted attached alive same
+pub stopped-same : {A E : Type 0} (e : Environment) (s t : StoreState) (old new : HandleScopes) (m : ReferenceMap) (rs : List TsfnRoot) (a : Attachments) (p : Option ℕ)
+    (ps : Promises) (r : Result A E)
+    → KeepsValues s t → RefersToLive s m → RootsAreLive s rs → AreAttachedToLive s a → IfSome p (IsLive s) → PromisesAreLive s ps
+    → OnErr r (heap_of t new ≡ heap_of s old) → OnErr r (seen_by e t new m rs a p ps ≡ seen_by e s old m rs a p ps)
+stopped-same e s t old new m rs a p ps (Ok x) kept live rooted attached alive promised same = tt
+stopped-same e s t old new m rs a p ps (Err x) kept live rooted attached alive promised same =
+    same-seen e s t old new m rs a p ps kept live rooted attached alive promised same

@@ -8,6 +8,7 @@ use Rattle.napi_types.specs.plain.Room.{Room, most_entries}
 use Rattle.napi_types.specs.environment.Changes.{Change, opening_change, gone_change, in_phase, with_none_waiting}
 use Rattle.napi_types.specs.environment.Environment.{Environment, OpenedWith, new_environment}
 use Rattle.napi_types.specs.environment.Hooked.{IsHooked}
+use Rattle.napi_types.specs.environment.Promised.{IsPromised}
 use Rattle.napi_types.specs.environment.JournalRoom.{journal_room, reserved_journal}
 use Rattle.env_core.specs.Journal.{JournalSeen}
 
@@ -50,8 +51,8 @@ next_init e = cond (nat_lt e.inits e.addons) (Some e.inits) None
 abbrev pub room_in : Core → Room
 room_in core = journal_room core.env (length core.journal) core.limit
 
--- the promised places are the reserved ones, each number and each ticket that was given out has an entry, no entry made more than 65,537 values, and the hooks
--- fit the book
+-- the promised places are the reserved ones, each number and each ticket that was given out has an entry, no entry made more than 65,537 values, the hooks fit
+-- the book, and the deferreds fit the values
 pub record IsCore (e : Environment) (pages : JournalSeen) : Type 0 where
   pub reserved : pages.promised ≡ reserved_journal e
   pub within : length pages.entries + pages.promised ≤ pages.limit
@@ -60,5 +61,7 @@ pub record IsCore (e : Environment) (pages : JournalSeen) : Type 0 where
   pub scopes : length e.heap.scope_numbers ≤ length pages.entries
   pub references : length e.references.issued ≤ length pages.entries
   pub tickets : length e.book ≤ length pages.entries
+  pub deferreds : length e.promises.issued ≤ length pages.entries
   pub values : e.heap.made ≤ 65537 * length pages.entries + 5
   pub hooked : IsHooked e
+  pub promised : IsPromised e

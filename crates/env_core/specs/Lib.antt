@@ -4,6 +4,7 @@ pub mod Core
 pub mod CoreSteps
 pub mod Journal
 pub mod Looking
+pub mod Promising
 pub mod Referring
 pub mod Rooting
 pub mod Sharing

@@ -4,6 +4,7 @@ use Rattle.std.specs.List.{All}
 use Rattle.std.specs.Option.{option_to_list}
 use Rattle.napi_types.specs.plain.Lists.{HaveSameNumbers}
 use Rattle.napi_types.specs.parts.Graph.{StoreState, IsLive, number_in}
+use Rattle.napi_types.specs.parts.Promises.{Promises, promise_roots}
 use Rattle.napi_types.specs.parts.Reach.{numbers}
 use Rattle.napi_types.specs.parts.References.{ReferenceMap, strong_values}
 use Rattle.napi_types.specs.parts.Scopes.{held_by_frames}
@@ -21,11 +22,12 @@ abbrev pub held_values : HandleScopes → List ℕ
 held_values scopes = map (λ h. h.value) (held_by_frames scopes.frames)
 
 -- these are the roots, in any order: the starting values, the values of the handles in open scopes, those of strong references, those that thread-safe
--- functions keep, and the pending exception
-pub record AreRoots (store : StoreState) (scopes : HandleScopes) (references : ReferenceMap) (functions : List TsfnRoot) (pending : Option ℕ) (ids : List ℕ)
-    : Type 0 where
+-- functions keep, the pending exception, and the promises that are kept
+pub record AreRoots (store : StoreState) (scopes : HandleScopes) (references : ReferenceMap) (functions : List TsfnRoot) (pending : Option ℕ) (promises : Promises)
+    (ids : List ℕ) : Type 0 where
   pub starting : List ℕ
   pub are_starting : AreStarting store starting
-  pub are : HaveSameNumbers ids (starting ++ held_values scopes ++ strong_values references ++ map (λ r. r.value) functions ++ option_to_list pending)
+  pub are : HaveSameNumbers ids
+      (starting ++ held_values scopes ++ strong_values references ++ map (λ r. r.value) functions ++ option_to_list pending ++ promise_roots promises)
   -- all of them name live values
   pub live : All (IsLive store) ids

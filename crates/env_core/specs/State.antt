@@ -56,13 +56,14 @@ pub record IsState (store : StoreState) (scopes : HandleScopes) (standing : List
   pub referred : RefersToLive store references
   pub rooted : RootsAreLive store functions
 
--- numbers are left for all that one call may issue: values, a handle, a scope, a reference and a ticket
+-- numbers are left for all that one call may issue: values, a handle, a scope, a reference, a ticket and a deferred
 pub record HasNumbersFor (e : Environment) : Type 0 where
   pub values : e.heap.made + most_names + 8 < 2 ^ 48
   pub handles : e.heap.handles < 2 ^ 62
   pub scopes : length e.heap.scope_numbers < 2 ^ 62
   pub references : length e.references.issued + 2 < 2 ^ 48
   pub tickets : length e.book < 2 ^ 62
+  pub deferreds : length e.promises.issued < 2 ^ 62
 
 -- the call that opens a scope of a kind, and the one that closes it
 abbrev pub opening_call : ScopeKind → Call

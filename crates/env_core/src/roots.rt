@@ -8,10 +8,12 @@ ghost use Rattle.value_store.specs.StoreChanges.{numbers_of};
 ghost use Rattle.napi_reference.specs.ReferencePlaces.{map_of};
 ghost use Rattle.env_values.specs.SeenValues.{HoldsLive};
 ghost use Rattle.env_core.specs.TsfnRooting.{RootsAreLive};
+ghost use Rattle.env_core.specs.Promising.{PromisesAreLive};
 ghost use Rattle.env_core.specs.Referring.{RefersToLive};
 ghost use Rattle.env_core.specs.Rooting.{AreRoots, AreStarting, held_values};
 
 use crate::tsfn_roots::TsfnRoots;
+use env_registry::Registry;
 use handle_scope::Scopes;
 use napi_reference::Refs;
 use napi_types::{NoMemory, ValueId};
@@ -19,10 +21,10 @@ use std::alloc::Global;
 use value_store::Store;
 
 /// The roots: the starting values, the values of handles in open scopes, those of strong references, those that thread-safe
-/// functions keep, and the pending exception.
+/// functions keep, the pending exception, and the promises whose deferred is not settled or which have a reaction.
 ///
-/// It takes time linear in the handle places, for each of them logarithmic in the open scopes, in the places of references, and
-/// in the roots of functions.
+/// It takes time linear in the handle places, for each of them logarithmic in the open scopes, in the places of references, in
+/// the roots of functions, and in the promises.
 pub fn roots_of(
     alloc: Global,
     store: &Store,
@@ -30,19 +32,23 @@ pub fn roots_of(
     references: &Refs,
     functions: &TsfnRoots,
     pending: Option<ValueId>,
+    registry: &Registry,
 ) -> Result<Vec<ValueId>, NoMemory>
     requires held { HoldsLive store.now scopes.now }
     requires referred { RefersToLive store.now (map_of references.now) }
     requires rooted { RootsAreLive store.now functions.now }
     requires pending { IfSome pending (λ v. IsLive store.now v.0) }
+    requires promised { PromisesAreLive store.now registry.now.parts.promises }
     ensures { let thrown = option_map (λ v. v.0) pending in
-        IfOk result (λ roots. AreRoots store.now scopes.now (map_of references.now) functions.now thrown (numbers_of roots.items)) }
+        let promises = registry.now.parts.promises in
+        IfOk result (λ roots. AreRoots store.now scopes.now (map_of references.now) functions.now thrown promises (numbers_of roots.items)) }
 {
     let mut roots = starting(alloc, store)?;
     push_held(&mut roots, scopes)?;
     push_strong(&mut roots, references)?;
     functions.push_values(&mut roots)?;
     push(&mut roots, pending)?;
+    registry.push_promise_roots(&mut roots)?;
     Ok(roots)
 }
 

@@ -14,6 +14,7 @@ ghost use Rattle.napi_types.specs.parts.Properties.{most_names};
 ghost use Rattle.napi_types.specs.environment.Changes.{opening_change, init_change, gone_change, in_phase, with_noted_status, call_entry};
 ghost use Rattle.napi_types.specs.environment.Environment.{new_environment};
 ghost use Rattle.napi_types.specs.environment.Hooked.{IsHooked};
+ghost use Rattle.napi_types.specs.environment.Promised.{IsPromised};
 ghost use Rattle.napi_types.specs.environment.Moments.{guard_status, is_tearing, refusal_by_moment};
 ghost use Rattle.napi_types.specs.environment.Refusals.{refusal_by_state, refusal_before_depth};
 ghost use Rattle.napi_types.specs.environment.Registering.{finalizer_if};
@@ -30,6 +31,7 @@ mod exceptions;
 mod externals;
 mod hooks;
 mod instances;
+mod promises;
 mod references;
 mod shared;
 mod tickets;
@@ -83,6 +85,7 @@ impl Model for State {
     ghost use Rattle.env_core.specs.Beginning.{AreBegun};
     ghost use Rattle.env_core.specs.TsfnRooting.{tsfn_roots_seen};
     ghost use Rattle.env_core.specs.Referring.{references_seen};
+    ghost use Rattle.env_core.specs.Promising.{promises_seen, PromisesAreLive};
     ghost use Rattle.env_core.specs.State.{pending_seen, IsState};
 
     ghost view = { λ state. record {
@@ -101,6 +104,7 @@ impl Model for State {
       hooks = state.registry.parts.hooks;
       async_hooks = state.registry.parts.async_hooks;
       instances = state.registry.parts.instances;
+      promises = promises_seen state.store state.registry.parts.promises;
       tsfn_roots = tsfn_roots_seen state.store state.tsfn_roots;
       pending = pending_seen state.store state.exceptions.pending;
       last = state.exceptions.last;
@@ -108,7 +112,8 @@ impl Model for State {
 
     ghost invariant = { λ state. IsState state.store state.scopes state.frames state.exceptions.pending (map_of state.references) state.tsfn_roots
         × AreAttachedToLive state.store state.registry.parts.attachments
-        × AreBegun state.frames state.registry.parts.book };
+        × AreBegun state.frames state.registry.parts.book
+        × PromisesAreLive state.store state.registry.parts.promises };
 }
 
 impl State {
@@ -182,6 +187,7 @@ impl State {
         requires within { asks_made self.old.frames < most_asks }
         requires numbers { HasNumbersFor self.old }
         requires hooked { IsHooked self.old }
+        requires promised { IsPromised self.old }
         ensures ok { IfOk result (λ reply. Calls self.old call.now (call_entry self.old call.now reply) self.new) }
         ensures stopped { OnErr result (FindsNoMemory self.old call.now (refusal_before_depth self.old call.now) self.new) }
     {
@@ -241,6 +247,7 @@ impl State {
         requires other { is_value_call call.now ≡ false }
         requires numbers { HasNumbersFor self.old }
         requires hooked { IsHooked self.old }
+        requires promised { IsPromised self.old }
         ensures ok { IfOk result (λ reply. Answers self.old call.now reply self.new) }
         ensures stopped { OnErr result (FindsNoMemory self.old call.now (refusal_before_depth self.old call.now) self.new) }
     {
@@ -316,6 +323,7 @@ impl State {
         requires other { is_value_call call.now ≡ false }
         requires numbers { HasNumbersFor self.old }
         requires hooked { IsHooked self.old }
+        requires promised { IsPromised self.old }
         ensures ok { IfOk result (λ reply. AnswersInTime self.old call.now reply self.new) }
         ensures stopped { OnErr result (FindsNoMemory self.old call.now (refusal_by_state self.old call.now) self.new) }
     {
@@ -327,6 +335,7 @@ impl State {
             CallGroup::OnExceptions => self.answer_on_exceptions(call),
             CallGroup::OnInstances => self.answer_on_instances(call),
             CallGroup::OnHooks => self.answer_on_hooks(call),
+            CallGroup::OnPromises => self.answer_on_promises(call),
             CallGroup::OnVersion => Ok(self.answer_on_version(call)),
             CallGroup::OnCollection => self.answer_on_collection(call),
             CallGroup::OnExit => Ok(self.answer_on_exit(call)),

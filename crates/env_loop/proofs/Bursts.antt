@@ -182,6 +182,15 @@ needed-comes run needs = by (pending_at_hub run) refl
         ap (λ b. b || hub_is_next_at run.core.env.frames run.core.env) owes
         ∙ over-none run.core.env.frames run.core.env (sym (ap (λ b. cond b turn.NeedsHub (turn_of run.core.env)) owes) ∙ needs)
 
+-- where nothing was done nothing is pending, and the next event, which would be the hub's, is none
+pub nothing-done : (old new : Run) (before after : HubSeen) → new ≡ old → after ≡ before → pending_at_hub old ≡ false → hub_event old.core.env before.hub ≡ None
+    → hub_is_next old ≡ true → (pending_at_hub new ≡ false) × (hub_is_next new ≡ true) × (hub_event new.core.env after.hub ≡ None)
+nothing-done old new before after same still owes none next = (
+  ap pending_at_hub same ∙ owes,
+  ap hub_is_next same ∙ next,
+  ap (λ (r : Run). hub_event r.core.env after.hub) same ∙ ap (λ (h : HubSeen). hub_event old.core.env h.hub) still ∙ none,
+)
+
 -- what comes next where nothing is pending
 pub comes-unowed : (run : Run) → NothingPending run → hub_is_next run ≡ true → hub_is_next_at run.core.env.frames run.core.env ≡ true
 comes-unowed run paid comes =

@@ -25,7 +25,8 @@ impl State {
     }
 
     /// Frees the values that the roots do not reach, and tells how many there were: the references to them are emptied, what is
-    /// attached to them goes, and the tickets of their finalizers fall due. All memory is taken before the first change.
+    /// attached to them goes, the tickets of their finalizers fall due, and those that were promises are none any more. All memory is
+    /// taken before the first change.
     #[inline(never)]
     pub(super) fn collect(&mut self) -> Result<Reply, NoMemory>
         ensures ok { IfOk result (λ reply. AnswersInTime self.old call_of.Collect reply self.new) }
@@ -39,6 +40,7 @@ impl State {
             &self.references,
             &self.tsfn_roots,
             self.exceptions.pending(),
+            &self.registry,
         )?;
         // What is attached to live values is told apart by their creation numbers, and a value has one wrap and one tag at most.
         invariant(&self.store);

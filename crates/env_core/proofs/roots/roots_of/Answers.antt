@@ -13,5 +13,7 @@ alive s (Some v) live = live
 pub returns : goal.returns
 returns c =
     gathered c.args.store.now c.args.scopes.now (map_of c.args.references.now) c.args.functions.now (option_map (λ (v : ValueId). v.0) c.args.pending)
-    (numbers_of c.in_ok-roots.roots.items) (numbers_of c.push_held.new.roots.items) (numbers_of c.push_strong.new.roots.items) (numbers_of c.push_values.new.values.items) (numbers_of c.push.new.roots.items)
-    c.requires.held c.requires.referred c.requires.rooted (alive c.args.store.now c.args.pending c.requires.pending) c.in_ok-roots.ensures c.in_ok-push_held.ensures c.in_ok-push_strong.ensures c.in_ok-push_values.ensures c.in_ok-push.ensures
+    c.args.registry.now.parts.promises
+    (numbers_of c.in_ok-roots.roots.items) (numbers_of c.push_held.new.roots.items) (numbers_of c.push_strong.new.roots.items) (numbers_of c.push_values.new.values.items) (numbers_of c.push.new.roots.items) (numbers_of c.push_promise_roots.new.roots.items)
+    c.requires.held c.requires.referred c.requires.rooted (alive c.args.store.now c.args.pending c.requires.pending) c.requires.promised c.in_ok-roots.ensures c.in_ok-push_held.ensures c.in_ok-push_strong.ensures c.in_ok-push_values.ensures c.in_ok-push.ensures
+    c.in_ok-push_promise_roots.ensures

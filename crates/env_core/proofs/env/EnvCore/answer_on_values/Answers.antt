@@ -1,11 +1,11 @@
-use Rattle.std.proofs.Common.{◌≡◌, ◌∙◌, ◌+◌, ◌-◌, refl, ap, arith}
+use Rattle.std.proofs.Common.{◌∙◌, ◌+◌, ◌-◌, ap, arith}
 use Rattle.napi_types.specs.declared.entry.Entry.{Entry}
 use Rattle.napi_types.specs.declared.entry.Reply.{Reply}
 use Rattle.napi_types.specs.plain.Replies.{plain}
 use Rattle.napi_types.specs.environment.Changes.{call_entry}
 use Rattle.env_core.specs.Journal.{JournalSeen}
 use Rattle.env_core.specs.State.{Calls}
-use Rattle.env_core.proofs.Cores.{written, written-call, calls-keep, calls-hooked, core-call_change, replied-last, other-at-once, fits-in, value-need}
+use Rattle.env_core.proofs.Cores.{written, written-call, calls-keep, calls-hooked, calls-promised, core-call_change, replied-last, other-at-once, fits-in, value-need}
 use Rattle.env_core.proofs.Sharing.{idle-may}
 use Rattle.env_core.proofs.env.EnvCore.answer_on_values.Goals as goal
 
@@ -18,6 +18,7 @@ invariant_of-self-in-Ok c =
     let need = value-need c.args.call.now c.requires.value_call in (
       core-call_change s.state c.call_on_values.new.self s.journal c.push_plain_call.new.self c.args.call.now x (s.journal.promised + 1 - 1) c.self.invariant.0
           (calls-keep s.state c.call_on_values.new.self c.args.call.now x calls) (calls-hooked s.state c.call_on_values.new.self c.args.call.now x calls c.self.invariant.0.hooked)
+          (calls-promised s.state c.call_on_values.new.self c.args.call.now x calls c.self.invariant.0.promised)
           (omega (arith, need, c.in_default.ensures.room))
           (omega (arith, need))
           (c.push_plain_call.ensures

@@ -3,7 +3,7 @@ use Rattle.napi_types.specs.declared.entry.Entry.{Entry}
 use Rattle.napi_types.specs.environment.Changes.{call_entry}
 use Rattle.env_core.specs.Journal.{JournalSeen}
 use Rattle.env_core.specs.State.{Calls}
-use Rattle.env_core.proofs.Cores.{KeepsPlaces, written, written-call, calls-keep, calls-hooked, places-kept, core-call_change, replied-last, other-at-once, fits-in}
+use Rattle.env_core.proofs.Cores.{KeepsPlaces, written, written-call, calls-keep, calls-hooked, calls-promised, places-kept, core-call_change, replied-last, other-at-once, fits-in}
 use Rattle.env_core.proofs.Sharing.{idle-may}
 use Rattle.env_core.proofs.env.EnvCore.answer_other.Goals as goal
 use Rattle.env_core.proofs.env.EnvCore.answer_other.Goals.{After-give_back-arg-1}
@@ -53,6 +53,7 @@ invariant_of-self-in-Ok c =
     let k : KeepsPlaces s.journal.promised c.args.call.now x.reply = places-kept s.state c.call.new.self s.journal c.args.call.now x.reply c.self.invariant.0 (calls-keep s.state c.call.new.self c.args.call.now x calls) in (
       core-call_change s.state c.call.new.self s.journal c.give_back.new.self c.args.call.now x (s.journal.promised + c.args.facts.places - 1 - left) c.self.invariant.0
           (calls-keep s.state c.call.new.self c.args.call.now x calls) (calls-hooked s.state c.call.new.self c.args.call.now x calls c.self.invariant.0.hooked)
+          (calls-promised s.state c.call.new.self c.args.call.now x calls c.self.invariant.0.promised)
           (omega (arith, c.requires.facts.places, c.in_default.ensures.room))
           (omega (arith, c.requires.facts.places, c.frame_places-kept.ensures, c.frame_places-freed.ensures, k.made, k.dropped))
           (c.give_back.ensures ∙ ap (λ (p : JournalSeen). record p { promised = p.promised - left }) c.push_call.ensures

@@ -5,7 +5,7 @@ use Rattle.napi_types.specs.declared.entry.Entry.{Entry}
 use Rattle.napi_types.specs.environment.Changes.{call_entry}
 use Rattle.env_core.specs.Journal.{JournalSeen}
 use Rattle.env_core.specs.State.{RefusesCall}
-use Rattle.env_core.proofs.Cores.{written, written-call, calls-keep, calls-hooked, called-places, core-call_change}
+use Rattle.env_core.proofs.Cores.{written, written-call, calls-keep, calls-hooked, calls-promised, called-places, core-call_change}
 use Rattle.env_core.proofs.Sharing.{idle-may}
 use Rattle.env_core.proofs.env.EnvCore.call_function.Goals as goal
 
@@ -18,6 +18,7 @@ invariant_of-self-in-Ok-Refused c =
     let ok : RefusesCall s.state made x c.call_function.new.self = rw c.in-Ok-Refused.field-0-is at c.in-Ok-Refused.ensures.ok in (
       core-call_change s.state c.call_function.new.self s.journal c.give_back.new.self made x (s.journal.promised + 2 - 1 - 1) c.self.invariant.0
           (calls-keep s.state c.call_function.new.self made x ok.calls) (calls-hooked s.state c.call_function.new.self made x ok.calls c.self.invariant.0.hooked)
+          (calls-promised s.state c.call_function.new.self made x ok.calls c.self.invariant.0.promised)
           c.in_default.ensures.room (called-places s.state c.args.receiver c.args.function c.args.args.now x c.call_function.new.self s.journal.promised ok.calls)
           (c.give_back.ensures ∙ ap (λ (p : JournalSeen). record p { promised = p.promised - 1 }) c.push_call.ensures
           ∙ written-call s.state c.depth-depth.result c.args.step made r (c.promise.new.self.promised - 1 - 1) c.promise.new.self c.depth-depth.ensures (rw (← c.self.view_is) at c.requires.ask)

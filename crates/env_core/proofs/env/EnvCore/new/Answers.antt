@@ -3,6 +3,7 @@ use Rattle.napi_types.specs.declared.entry.Entry.{Entry}
 use Rattle.napi_types.specs.plain.Room.{most_entries}
 use Rattle.napi_types.specs.environment.Environment.{OpenedWith, new_environment}
 use Rattle.napi_types.proofs.environment.HookedSteps.{hooked-opening}
+use Rattle.napi_types.proofs.environment.Promised.{opening-promised}
 use Rattle.env_core.specs.Core.{IsCore}
 use Rattle.env_core.proofs.env.EnvCore.new.Goals as goal
 
@@ -21,7 +22,9 @@ opened given limit entry room most =
       references = omega arith;
       tickets = omega arith;
       values = omega arith;
+      deferreds = omega arith;
       hooked = record { rise = h.rise; hooks = h.hooks; others = h.others; attached = h.attached; instances = h.instances; async = h.async };
+      promised = record { linked = (opening-promised given).linked };
     }
 
 pub invariant_of-result : goal.invariant_of-result

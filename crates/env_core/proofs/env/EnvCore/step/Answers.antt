@@ -1,4 +1,3 @@
-use Rattle.std.proofs.Common.{◌≡◌, true, false, ap, sym}
 use Rattle.env_core.proofs.AtOnce.{never-enters, stays-local, if-reply, refused-early, refused-deep}
 use Rattle.env_core.proofs.env.EnvCore.step.Goals as goal
 

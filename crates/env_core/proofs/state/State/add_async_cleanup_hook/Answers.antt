@@ -1,9 +1,7 @@
 use Rattle.std.proofs.Common.{arith}
-use Rattle.napi_types.specs.environment.HookCalls.{hook_registration}
 use Rattle.napi_types.proofs.environment.HookedSteps.{hooks-within, asyncs-within}
 use Rattle.env_core.specs.contracts.state.State.{the_view}
 use Rattle.env_core.proofs.AsyncHooking.{asyncs-few}
-use Rattle.env_core.proofs.Beginning.{begun-registered}
 use Rattle.env_core.proofs.state.State.add_async_cleanup_hook.Goals as goal
 
 pub add_async_hook-requires-clause-rising : goal.add_async_hook-requires-clause-rising

@@ -15,4 +15,4 @@ pub invariant_of-self-2 : goal.invariant_of-self-2
 invariant_of-self-2 c =
     let s = c.self.inside in
     let r = hook_registration c.caller-addon.result c.args.entry c.args.argument 0 in
-    rw c.in_ok-duty.ensures.added (c.self.invariant.0, c.self.invariant.1, begun-registered s.frames s.registry.parts.book r c.self.invariant.2)
+    rw c.in_ok-duty.ensures.added (c.self.invariant.0, c.self.invariant.1, begun-registered s.frames s.registry.parts.book r c.self.invariant.2, c.self.invariant.3)

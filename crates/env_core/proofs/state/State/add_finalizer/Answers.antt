@@ -23,6 +23,7 @@ invariant_of-self-2 c =
       rw (c.attach-made.ensures.attached, c.reserve_finalizer.ensures.same)
           (attached-finalized s.store s.registry.parts.attachments v (ticket_for s.registry.parts.book f) c.self.invariant.1 live),
       rw (c.attach-made.ensures.attached, c.reserve_finalizer.ensures.same) (begun-asked s.frames s.registry.parts.book f c.self.invariant.2),
+      rw (c.attach-made.ensures.attached, c.reserve_finalizer.ensures.same) c.self.invariant.3,
     )
 
 pub returns-clause-ok : goal.returns-clause-ok

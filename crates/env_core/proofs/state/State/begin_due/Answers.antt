@@ -18,4 +18,5 @@ invariant_of-self-2 c =
       rw c.begin_due.ensures.rest c.self.invariant.1,
       begun-first s.frames f.new.frames book _ c.info.result.now.duty none f.ensures.frames refl
           (ap (λ (d : DueInfo). is_at is_begun book (ticket_number d.duty)) c.info.ensures ∙ takes-begun s.registry.parts.book book c.in_ok-due.due c.in_ok-due.ensures.begun),
+      rw c.begin_due.ensures.rest c.self.invariant.3,
     )

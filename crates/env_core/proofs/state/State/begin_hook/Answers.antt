@@ -31,6 +31,7 @@ invariant_of-self-2 c =
       rw k.begun c.self.invariant.1,
       begun-first s.frames f.new.frames book _ c.info.result.now.duty none f.ensures.frames refl
           (ap (λ (d : DueInfo). is_at is_begun book (ticket_number d.duty)) told ∙ hook-begun s.registry.parts c.begin_hook.new.self.parts c.in_ok-due.due k),
+      rw k.begun c.self.invariant.3,
     )
 
 pub returns-clause-begun : goal.returns-clause-begun

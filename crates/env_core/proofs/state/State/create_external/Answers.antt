@@ -4,6 +4,7 @@ use Rattle.env_registry.specs.Registering.{registration_of, ticket_for}
 use Rattle.env_core.specs.contracts.state.State.{the_view}
 use Rattle.env_values.specs.SeenValues.{heap_of}
 use Rattle.env_core.proofs.Attaching.{attached-kept, attachments-kept}
+use Rattle.env_core.proofs.Promising.{promised-kept, promises-kept}
 use Rattle.env_core.proofs.TsfnRooting.{roots-live, roots-kept}
 use Rattle.env_core.proofs.Registered.{begun-asked, attached-finalized, given-frames, external-answers}
 use Rattle.env_core.proofs.Unrefused.{on-err}
@@ -17,8 +18,8 @@ returns-in_err-value-clause-err c =
     rw (← c.self.view_is, c.reserve_finalizer.ensures.same)
     (on-err _
     (same-seen (the_view s) s.store g.new.store s.scopes g.new.scopes
-    (map_of s.references) s.tsfn_roots s.registry.parts.attachments s.exceptions.pending g.ensures.keeps.values
-    c.self.invariant.0.referred c.self.invariant.0.rooted c.self.invariant.1 c.self.invariant.0.pending c.in_err-value.ensures.err))
+    (map_of s.references) s.tsfn_roots s.registry.parts.attachments s.exceptions.pending s.registry.parts.promises g.ensures.keeps.values
+    c.self.invariant.0.referred c.self.invariant.0.rooted c.self.invariant.1 c.self.invariant.0.pending c.self.invariant.3 c.in_err-value.ensures.err))
 
 pub invariant_of-self-2 : goal.invariant_of-self-2
 invariant_of-self-2 c =
@@ -38,6 +39,8 @@ invariant_of-self-2 c =
           (attached-finalized g.new.store s.registry.parts.attachments c.in_ok-value.value.0 (ticket_for s.registry.parts.book f)
           (attached-kept s.store g.new.store g.ensures.keeps.values s.registry.parts.attachments c.self.invariant.1) c.in_ok-value.ensures.live),
       rw (c.attach-made.ensures.attached, c.reserve_finalizer.ensures.same) (begun-asked s.frames s.registry.parts.book f c.self.invariant.2),
+      rw (c.attach-made.ensures.attached, c.reserve_finalizer.ensures.same)
+          (promised-kept s.store g.new.store g.ensures.keeps.values s.registry.parts.promises c.self.invariant.3),
     )
 
 pub returns-clause-ok : goal.returns-clause-ok
@@ -54,6 +57,7 @@ returns-clause-ok c =
       pending-kept s.store g.new.store s.exceptions.pending g.ensures.keeps.values c.self.invariant.0.pending,
       references-kept s.store g.new.store (map_of s.references) g.ensures.keeps.values c.self.invariant.0.referred,
       roots-kept s.store g.new.store s.tsfn_roots g.ensures.keeps.values c.self.invariant.0.rooted,
+      promises-kept s.store g.new.store g.ensures.keeps.values s.registry.parts.promises c.self.invariant.3,
     )
     (external-answers (the_view s) s.store g.new.store s.registry.parts.attachments s.registry.parts.book c.args.payload c.args.hint c.args.finalizer c.in_ok-value.out (heap_of g.new.store g.new.scopes) v f
     c.in_ok-value.ensures.gives c.in_ok-value.ensures.number (attachments-kept s.store g.new.store g.ensures.keeps.values s.registry.parts.attachments c.self.invariant.1)

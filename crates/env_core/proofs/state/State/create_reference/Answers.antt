@@ -25,6 +25,7 @@ invariant_of-self-2 c =
       },
       c.self.invariant.1,
       c.self.invariant.2,
+      c.self.invariant.3,
     )
 
 pub returns-clause-ok : goal.returns-clause-ok

@@ -11,7 +11,7 @@ returns-in_default c =
 pub invariant_of-self : goal.invariant_of-self
 invariant_of-self c =
     let s = c.self.inside in
-    (state-escaped-or-not s.store s.scopes c.escape.new.self s.frames s.exceptions.pending c.args.scope.0 c.args.handle.0 c.in-Some.value.0 c.escape.result c.self.invariant.0 c.in-Some.ensures c.escape.ensures.ok c.escape.ensures.err, c.self.invariant.1, c.self.invariant.2)
+    (state-escaped-or-not s.store s.scopes c.escape.new.self s.frames s.exceptions.pending c.args.scope.0 c.args.handle.0 c.in-Some.value.0 c.escape.result c.self.invariant.0 c.in-Some.ensures c.escape.ensures.ok c.escape.ensures.err, c.self.invariant.1, c.self.invariant.2, c.self.invariant.3)
 
 pub returns : goal.returns
 returns c =

@@ -18,6 +18,7 @@ invariant_of-self-in-Ok-Some c =
           (value-live s.store (map_of s.references) c.args.reference.0 v (sym (ap (option_map (λ (x : ValueId). x.0)) c.in-Ok-Some.field-0-is) ∙ c.in-Ok-Some.ensures.value) c.self.invariant.0.referred) c.in_ok-handle-in-Ok-Some.ensures.ok,
       c.self.invariant.1,
       c.self.invariant.2,
+      c.self.invariant.3,
     )
 
 pub returns-in_ok-handle-in-Ok-Some-clause-ok : goal.returns-in_ok-handle-in-Ok-Some-clause-ok

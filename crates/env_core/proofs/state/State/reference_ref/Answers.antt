@@ -18,6 +18,7 @@ invariant_of-self c =
       },
       c.self.invariant.1,
       c.self.invariant.2,
+      c.self.invariant.3,
     )
 
 pub returns : goal.returns

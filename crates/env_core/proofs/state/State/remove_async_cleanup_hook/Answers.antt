@@ -7,4 +7,4 @@ pub invariant_of-self-2 : goal.invariant_of-self-2
 invariant_of-self-2 c =
     let s = c.self.inside in
     let t = registered_only s.registry.parts.book (set_ticket c.args.hook.0 s.registry.parts.async_hooks) in
-    rw c.in-Ok.ensures.removed (c.self.invariant.0, c.self.invariant.1, begun-dropped s.frames s.registry.parts.book t c.self.invariant.2)
+    rw c.in-Ok.ensures.removed (c.self.invariant.0, c.self.invariant.1, begun-dropped s.frames s.registry.parts.book t c.self.invariant.2, c.self.invariant.3)

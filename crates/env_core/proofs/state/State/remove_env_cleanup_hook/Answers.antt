@@ -7,4 +7,4 @@ pub invariant_of-self : goal.invariant_of-self
 invariant_of-self c =
     let s = c.self.inside in
     let t = registered_only s.registry.parts.book (Some c.in-Some.ticket.0) in
-    rw c.remove_hook.ensures.removed (c.self.invariant.0, c.self.invariant.1, begun-dropped s.frames s.registry.parts.book t c.self.invariant.2)
+    rw c.remove_hook.ensures.removed (c.self.invariant.0, c.self.invariant.1, begun-dropped s.frames s.registry.parts.book t c.self.invariant.2, c.self.invariant.3)

@@ -16,7 +16,7 @@ invariant_of-self-2 c =
     let v = c.in-Ok.value.0 in
     let t = registered_only s.registry.parts.book (wrap_ticket s.registry.parts.attachments v) in
     rw c.in-Some.ensures.unwrapped
-    (c.self.invariant.0, attached-without_wrap s.store s.registry.parts.attachments v c.self.invariant.1, begun-dropped s.frames s.registry.parts.book t c.self.invariant.2)
+    (c.self.invariant.0, attached-without_wrap s.store s.registry.parts.attachments v c.self.invariant.1, begun-dropped s.frames s.registry.parts.book t c.self.invariant.2, c.self.invariant.3)
 
 pub returns : goal.returns
 returns c =

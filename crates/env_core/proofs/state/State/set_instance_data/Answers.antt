@@ -8,7 +8,7 @@ pub invariant_of-self-2 : goal.invariant_of-self-2
 invariant_of-self-2 c =
     let s = c.self.inside in
     rw c.in_ok-replaced.ensures.set
-    (c.self.invariant.0, c.self.invariant.1, begun-asked s.frames _ (option_map registration_of c.finalizer_if-asked.result) (begun-dropped s.frames s.registry.parts.book _ c.self.invariant.2))
+    (c.self.invariant.0, c.self.invariant.1, begun-asked s.frames _ (option_map registration_of c.finalizer_if-asked.result) (begun-dropped s.frames s.registry.parts.book _ c.self.invariant.2), c.self.invariant.3)
 
 pub returns-clause-ok : goal.returns-clause-ok
 returns-clause-ok c =

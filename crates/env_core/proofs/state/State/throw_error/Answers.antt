@@ -7,6 +7,7 @@ use Rattle.env_core.specs.contracts.state.State.{the_view}
 use Rattle.env_values.specs.SeenValues.{heap_of}
 use Rattle.env_values.proofs.Giving.{thrown-heap}
 use Rattle.env_core.proofs.Attaching.{attachments-kept}
+use Rattle.env_core.proofs.Promising.{promises-kept}
 use Rattle.env_core.proofs.TsfnRooting.{roots-kept}
 use Rattle.env_core.proofs.CoreExceptions.{accepted-thrown}
 use Rattle.env_core.proofs.Unrefused.{on-err, thrown-unrefused}
@@ -27,6 +28,7 @@ returns-clause-ok c =
       references-kept s.store t (map_of s.references) k.kept c.self.invariant.0.referred,
       roots-kept s.store t s.tsfn_roots k.kept c.self.invariant.0.rooted,
       attachments-kept s.store t k.kept s.registry.parts.attachments c.self.invariant.1,
+      promises-kept s.store t k.kept s.registry.parts.promises c.self.invariant.3,
     )
     (accepted-thrown (the_view s) s.store t s.scopes c.args.code c.args.message c.in_ok-error.error.0 known
     (thrown-heap s.store t s.scopes c.args.code c.args.message k.kept.numbers c.self.invariant.0.live k.made k.graph) k.number))

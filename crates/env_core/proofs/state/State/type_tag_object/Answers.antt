@@ -27,7 +27,7 @@ invariant_of-self-2 c =
     let s = c.self.inside in
     let v = c.in-Ok.value.0 in
     rw c.in_ok-tag.ensures.ok
-    (c.self.invariant.0, attached-with_tag s.store s.registry.parts.attachments v c.args.lower c.args.upper c.self.invariant.1 c.in-Ok.ensures.live, c.self.invariant.2)
+    (c.self.invariant.0, attached-with_tag s.store s.registry.parts.attachments v c.args.lower c.args.upper c.self.invariant.1 c.in-Ok.ensures.live, c.self.invariant.2, c.self.invariant.3)
 
 pub returns-clause-ok : goal.returns-clause-ok
 returns-clause-ok c =
@@ -36,6 +36,6 @@ returns-clause-ok c =
     let k = c.in-Ok.ensures in
     rw (← c.self.view_is)
     (rw (c.plain-2.ensures, c.in_ok-tag.ensures.ok)
-    (tag-answers (the_view s) s.store k.sound s.registry.parts.attachments c.self.invariant.1 c.args.object v k.live k.number c.args.lower c.args.upper c.invariant.ensures
+    (tag-answers (the_view s) s.store k.sound s.registry.parts.attachments c.self.invariant.1 c.args.object v k.live k.number c.args.lower c.args.upper c.invariant.ensures.once
     (untold c.tag_of.result (sym c.is_some.ensures ∙ c.if-is_some.false) ∙ c.tag_of.ensures)
     (tag-unrefused (the_view s) s.store k.sound s.registry.parts.attachments c.self.invariant.1 c.args.object v k.live k.number c.args.lower c.args.upper c.tag_of.result k.refusal c.tag_of.ensures (sym c.is_some.ensures ∙ c.if-is_some.false))))

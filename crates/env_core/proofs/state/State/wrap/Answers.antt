@@ -63,6 +63,7 @@ invariant_of-self-2 c =
       rw (c.wrap-made.ensures.wrapped, c.reserve_wrap.ensures.same)
           (attached-with_wrap s.store s.registry.parts.attachments v c.args.payload (ticket_for s.registry.parts.book f) c.self.invariant.1 live),
       rw (c.wrap-made.ensures.wrapped, c.reserve_wrap.ensures.same) (begun-asked s.frames s.registry.parts.book f c.self.invariant.2),
+      rw (c.wrap-made.ensures.wrapped, c.reserve_wrap.ensures.same) c.self.invariant.3,
     )
 
 pub returns-clause-ok : goal.returns-clause-ok
@@ -74,7 +75,7 @@ returns-clause-ok c =
     rw (← c.self.view_is)
     (rw (c.wrap-made.ensures.wrapped, c.wrap-made.ensures.made, c.reserve_wrap.ensures.same)
     (wrap-answers (the_view s) s.store k.sound s.registry.parts.attachments s.registry.parts.book c.self.invariant.1 c.args.object v k.live k.number (map_of s.references) (map_of c.refer_if.new.references)
-    c.args.payload c.args.hint c.args.finalizer c.args.wanted c.in_ok-out.out f c.invariant.ensures
+    c.args.payload c.args.hint c.args.finalizer c.args.wanted c.in_ok-out.out f c.invariant.ensures.once
     (wrap-unrefused (the_view s) s.store k.sound s.registry.parts.attachments c.self.invariant.1 c.args.object v k.live k.number c.args.payload c.args.hint c.args.finalizer c.args.wanted c.wrapped.result k.refusal c.wrapped.ensures
     (sym c.wants_alone.ensures ∙ c.if-wants_alone.false) (sym c.is_some.ensures ∙ c.if-is_some.false))
     (untold c.wrapped.result (sym c.is_some.ensures ∙ c.if-is_some.false) ∙ c.wrapped.ensures) (rw (← c.self.view_is) at c.finalizer_if-asked.ensures)

@@ -1,14 +1,22 @@
-use Rattle.std.proofs.Common.{◌≡◌, ◌+◌, arith, rules, refl, sym, subst}
+use Rattle.std.proofs.Common.{◌≡◌, ◌∙◌, ◌+◌, arith, rules, refl, sym, subst}
 use Rattle.napi_types.specs.declared.entry.Actor.TheVariants as actor
 use Rattle.env_loop.specs.Bursts.{made_by, AddsEntriesOf}
 use Rattle.env_loop.specs.declared.run.HubTurn.TheVariants as turn
-use Rattle.env_loop.proofs.Bursts.{no-entries, one-entry, entries-then, one-turn, turns-then, stops-at-asks}
+use Rattle.env_loop.proofs.Bursts.{needed-comes, nothing-done, no-entries, one-entry, entries-then, one-turn, turns-then, stops-at-asks}
 use Rattle.env_loop.proofs.run.EnvRun.hub_burst.Goals as goal
 
 pub returns-then-ne-clause-made : goal.returns-then-ne-clause-made
 returns-then-ne-clause-made g c =
     let stays : c.hub_turn-first.new.hub ≡ c.args.hub.now = search rules in
     subst (λ s. AddsEntriesOf actor.Env 0 c.args.hub.now s) (sym stays) (no-entries actor.Env c.args.hub.now)
+
+pub returns-then-ne-clause-nothing : goal.returns-then-ne-clause-nothing
+returns-then-ne-clause-nothing g c = λ nothing.
+    let t = c.hub_turn-first.ensures in
+    let idle = t.nothing.0 nothing in
+    let stays : c.hub_turn-first.new.hub ≡ c.args.hub.now = t.hub (λ made. let no : turn.Nothing ≡ turn.Made = sym nothing ∙ made in cc) in
+    nothing-done c.args.self.now c.hub_turn-first.new.self c.args.hub.now c.hub_turn-first.new.hub (t.stays nothing) stays idle.0 idle.1
+    (needed-comes c.args.self.now c.requires.needs)
 
 pub returns-clause-made : goal.returns-clause-made
 returns-clause-made g c =
