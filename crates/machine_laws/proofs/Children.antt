@@ -6,7 +6,7 @@ use Rattle.std.proofs.lemmas.Bool.{cases_lt}
 use Rattle.std.proofs.lemmas.List.{get_or_past}
 use Rattle.std.proofs.lemmas.List.Elements.{All-nil, All-cons, All-head, All-tail, All-append, All-set, All-replicate, All-get_or}
 use Rattle.napi_types.specs.parts.Properties.{Property, property_at, property_set, property_removed, element_at, element_set}
-use Rattle.napi_types.specs.parts.Values.{Value, children, with_property, without_property, with_element, properties_of, elements_of}
+use Rattle.napi_types.specs.parts.Values.{Value, children, with_property, without_property, with_element, with_link, properties_of, elements_of}
 use Rattle.napi_types.proofs.parts.ChildParts.{children-of, properties-of, elements-of, link-of}
 
 -- the numbers that properties, and elements, name
@@ -113,6 +113,12 @@ keeps-element P at to here = record {
   number = λ v. refl;
   children = λ v all.
       children-of P (with_element at to v) (properties-of P v all) (of-element-set P at to v.elements here (elements-of P v all)) (link-of P v all);
+}
+
+pub keeps-link : (P : ℕ → Type 0) (to : ℕ) → P to → KeepsChildren P (with_link to)
+keeps-link P to here = record {
+  number = λ v. refl;
+  children = λ v all. children-of P (with_link to v) (properties-of P v all) (elements-of P v all) (All-cons P to [] here (All-nil P));
 }
 
 -- the properties and elements of any number

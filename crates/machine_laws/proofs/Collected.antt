@@ -6,6 +6,7 @@ use Rattle.std.proofs.lemmas.Bool.{eq-eqb, or_left, or_right}
 use Rattle.std.proofs.lemmas.List.Elements.{All-nil, All-cons, All-filter, All-map, All-weaker, filter_passes}
 use Rattle.std.proofs.lemmas.Map.Keys.{IsDistinct-head, IsDistinct-tail}
 use Rattle.napi_types.specs.plain.Lists.{has_number}
+use Rattle.napi_types.specs.parts.Promises.{promise_roots}
 use Rattle.napi_types.specs.parts.Reach.{numbers, children_at}
 use Rattle.napi_types.specs.parts.References.{Reference, strong_values, value_left}
 use Rattle.napi_types.specs.parts.Values.{Value, children, value_at, starting_values, those_of}
@@ -21,7 +22,7 @@ use Rattle.machine_laws.proofs.ConsistentHeaps.{IsConsistentHeap}
 use Rattle.machine_laws.proofs.LiveNumbers.{all-there}
 
 -- LISTS
-within-filter : {A : Type 0} (p : A → Bool) (xs : List A) → Within (filter p xs) xs []
+pub within-filter : {A : Type 0} (p : A → Bool) (xs : List A) → Within (filter p xs) xs []
 within-filter p [] q = omega arith
 within-filter p (x ∷ xs) q = by (p x) (within-filter p xs q)
   where
@@ -30,7 +31,7 @@ within-filter p (x ∷ xs) q = by (p x) (within-filter p xs q)
     by false less = omega (arith, less, count-cons q x xs)
 
 -- a value is found by its number where no number stands twice
-of-each : {A : Type 0} (P : ℕ → Type 0) (f : A → ℕ) (xs : List A) → AllByRecursion P (map f xs) → All (λ x. P (f x)) xs
+pub of-each : {A : Type 0} (P : ℕ → Type 0) (f : A → ℕ) (xs : List A) → AllByRecursion P (map f xs) → All (λ x. P (f x)) xs
 of-each P f [] all = All-nil (λ x. P (f x))
 of-each P f (x ∷ xs) all = All-cons (λ x. P (f x)) x xs all.0 (of-each P f xs all.1)
 
@@ -57,9 +58,17 @@ function_values e = map (λ r. r.value) e.tsfn_roots
 abbrev early_roots : Environment → List ℕ
 early_roots e = numbers starting_values ++ held_roots e ++ strong_values e.references
 
+-- all but the promises
+abbrev pub other_roots : Environment → List ℕ
+other_roots e = early_roots e ++ function_values e ++ option_to_list e.pending
+
+root-other : (e : Environment) (n : ℕ) → has_number n (other_roots e) ≡ true → has_number n (roots e) ≡ true
+root-other e n h = has-left n (other_roots e) (promise_roots e.promises) h
+
 -- each of the first three kinds is a root
 root-early : (e : Environment) (n : ℕ) → has_number n (early_roots e) ≡ true → has_number n (roots e) ≡ true
-root-early e n h = has-left n (early_roots e ++ function_values e) (option_to_list e.pending) (has-left n (early_roots e) (function_values e) h)
+root-early e n h =
+    root-other e n (has-left n (early_roots e ++ function_values e) (option_to_list e.pending) (has-left n (early_roots e) (function_values e) h))
 
 -- a starting value, the value of a handle that is held, what a thread-safe function keeps alive, and the pending exception are roots
 root-starting : (e : Environment) (n : ℕ) → has_number n (numbers starting_values) ≡ true → has_number n (roots e) ≡ true
@@ -73,17 +82,18 @@ root-held e n h =
     (has-left n (numbers starting_values ++ held_roots e) (strong_values e.references) (has-right n (numbers starting_values) (held_roots e) h))
 
 root-function : (e : Environment) (n : ℕ) → has_number n (function_values e) ≡ true → has_number n (roots e) ≡ true
-root-function e n h = has-left n (early_roots e ++ function_values e) (option_to_list e.pending) (has-right n (early_roots e) (function_values e) h)
+root-function e n h =
+    root-other e n (has-left n (early_roots e ++ function_values e) (option_to_list e.pending) (has-right n (early_roots e) (function_values e) h))
 
 root-pending : (e : Environment) (n : ℕ) → has_number n (option_to_list e.pending) ≡ true → has_number n (roots e) ≡ true
-root-pending e n h = has-right n (early_roots e ++ function_values e) (option_to_list e.pending) h
+root-pending e n h = root-other e n (has-right n (early_roots e ++ function_values e) (option_to_list e.pending) h)
 
 -- WHAT IS KEPT
 -- the values after a collection
-abbrev kept : Environment → List Value
+abbrev pub kept : Environment → List Value
 kept e = those_of (reach e) e.heap.values
 
-live-reached : (e : Environment) (n : ℕ) → has_number n (reach e) ≡ true → IsLiveAmong (kept e) n
+pub live-reached : (e : Environment) (n : ℕ) → has_number n (reach e) ≡ true → IsLiveAmong (kept e) n
 live-reached e n h = ap (has_number n) (numbers-kept e.heap.values (roots e)) ∙ h
 
 live-root : (e : Environment) (n : ℕ) → IsLiveAmong e.heap.values n → has_number n (roots e) ≡ true → IsLiveAmong (kept e) n

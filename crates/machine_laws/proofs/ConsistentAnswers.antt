@@ -1,5 +1,5 @@
 -- Every call keeps environments good.
-use Rattle.std.proofs.Common.{◌≡◌, ◌≤◌, arith, ℕ, ◌==◌, Bool, true, false, cond, not, List, [], ◌∷◌, length, refl, sym, ◌∙◌, Option, Some, None, option_map, slice_index_or, subst}
+use Rattle.std.proofs.Common.{◌≡◌, ◌≤◌, arith, ℕ, ◌+◌, ◌==◌, Bool, true, false, cond, not, List, [], ◌∷◌, length, refl, sym, ◌∙◌, Option, Some, None, option_map, slice_index_or, subst}
 use Rattle.std.specs.List.{All}
 use Rattle.std.specs.Option.{IfSome, unwrap_or}
 use Rattle.std.proofs.lemmas.List.Elements.{All-append, All-cons, All-nil, All-head, All-tail, All-filter, All-map, All-weaker}
@@ -11,18 +11,21 @@ use Rattle.napi_types.specs.declared.entry.Out.TheVariants as out
 use Rattle.napi_types.specs.declared.ids.TextNo.{TextNo}
 use Rattle.napi_types.specs.plain.Lists.{found}
 use Rattle.napi_types.specs.plain.Replies.{accepts}
+use Rattle.napi_types.specs.parts.Bodies.{promise_tag}
 use Rattle.napi_types.specs.parts.Frames.{caller_of, most_frames}
 use Rattle.napi_types.specs.parts.Heap.{Heap, handle_value}
 use Rattle.napi_types.specs.parts.HeapChanges.{with_handle, with_thrown, thrown_number}
 use Rattle.napi_types.specs.parts.AsyncHooks.{set_ticket, with_removed}
 use Rattle.napi_types.specs.parts.Hooks.{hook_ticket}
+use Rattle.napi_types.specs.parts.Promises.{Promises, with_promise, with_settled}
 use Rattle.napi_types.specs.parts.References.{Reference, ReferenceMap, with_reference, without_reference, with_count}
-use Rattle.napi_types.specs.parts.Values.{undefined_value}
+use Rattle.napi_types.specs.parts.Values.{undefined_value, linked_value, with_link}
 use Rattle.napi_types.specs.environment.Calls.{effect, answer}
 use Rattle.napi_types.specs.environment.Changes.{call_change}
 use Rattle.napi_types.specs.environment.Environment.{TsfnRoot, Environment, with_heap}
 use Rattle.napi_types.specs.environment.ExceptionCalls.{with_pending, with_thrown_error}
 use Rattle.napi_types.specs.environment.HookCalls.{unhooked}
+use Rattle.napi_types.specs.environment.PromiseCalls.{with_new_promise, with_settler}
 use Rattle.napi_types.specs.environment.ReferenceCalls.{with_references}
 use Rattle.napi_types.specs.environment.Registering.{withdrawing}
 use Rattle.napi_types.specs.environment.Registry.{registry_of, with_registry}
@@ -30,11 +33,14 @@ use Rattle.napi_types.proofs.environment.AnswersKeep.{KeepsButAsk, call_change-k
 use Rattle.napi_types.proofs.environment.Cases.{answer-by}
 use Rattle.napi_types.proofs.environment.Effects as does
 use Rattle.napi_types.proofs.environment.Effects.{Effect, registered-by, effect-of}
-use Rattle.machine_laws.specs.Consistency.{IsConsistent, IsLiveAmong, IsMap}
+use Rattle.machine_laws.specs.Consistency.{IsConsistent, IsLiveAmong, IsMap, ArePromisesOf}
+use Rattle.machine_laws.proofs.Children.{KeepsChildren, keeps-link}
 use Rattle.machine_laws.proofs.Collected.{heap-kept, referred-kept, pending-kept, rooted-kept}
 use Rattle.machine_laws.proofs.ConsistentCalls.{heap-call, handle-live, or-undefined}
 use Rattle.machine_laws.proofs.ConsistentHeaps.{IsConsistentHeap, HandlesStay, ComesTo, stays, with-handle}
-use Rattle.machine_laws.proofs.ConsistentValues.{with-new, with-thrown, thrown-live}
+use Rattle.machine_laws.proofs.ConsistentValues.{with-new, with-new-linked, with-one-changed, with-thrown, thrown-live}
+use Rattle.machine_laws.proofs.LiveNumbers.{live-pushed}
+use Rattle.machine_laws.proofs.PromiseMaps.{left-promised, more-promised, settled-promised, wider-promised}
 use Rattle.machine_laws.proofs.Rising.{more-map, fewer-map, counted-map, emptied-map}
 
 -- what holds of an environment, but what is said of its frames
@@ -44,6 +50,7 @@ pub record IsConsistentButFrames (e : Environment) : Type 0 where
   pub references : IsMap e.references
   pub pending : IfSome e.pending (IsLiveAmong e.heap.values)
   pub rooted : All (λ r. IsLiveAmong e.heap.values r.value) e.tsfn_roots
+  pub promises : ArePromisesOf e.heap.values e.promises
 
 -- one environment leads to another, which is good
 pub record LeadsToGood (old new : Environment) : Type 0 where
@@ -58,6 +65,7 @@ parts-of e c = record {
   references = c.references;
   pending = c.pending;
   rooted = c.rooted;
+  promises = c.promises;
 }
 
 pub whole-of : (e : Environment) → IsConsistentButFrames e → length e.heap.scopes ≡ length e.frames → length e.frames ≤ most_frames → IsConsistent e
@@ -69,6 +77,7 @@ whole-of e g same few = record {
   references = g.references;
   pending = g.pending;
   rooted = g.rooted;
+  promises = g.promises;
   children = g.heap.children;
   starting = g.heap.starting;
   frames = same;
@@ -91,13 +100,14 @@ in-heap e heap g c =
         pending = IfSome_then e.pending g.pending c.live;
         rooted = All-weaker (λ (r : TsfnRoot). IsLiveAmong e.heap.values r.value) (λ r. IsLiveAmong heap.values r.value)
             (λ r h. c.live r.value h) e.tsfn_roots g.rooted;
+        promises = wider-promised e.heap.values heap.values e.promises c.live g.promises;
       };
       stay = c.stay;
     }
 
 -- another pending exception
 pub with-pending : (e : Environment) (o : Option ℕ) → IsConsistentButFrames e → IfSome o (IsLiveAmong e.heap.values) → IsConsistentButFrames (with_pending o e)
-with-pending e o g live = record { heap = g.heap; referred = g.referred; references = g.references; pending = live; rooted = g.rooted }
+with-pending e o g live = record { heap = g.heap; referred = g.referred; references = g.references; pending = live; rooted = g.rooted; promises = g.promises }
 
 thrown-good : (e : Environment) (code : Option TextNo) (message : TextNo) → IsConsistentButFrames e → LeadsToGood e (with_thrown_error code message e)
 thrown-good e code message g =
@@ -141,7 +151,10 @@ row-of P n (r ∷ rs) none all = by (r.number == n) refl (row-of P n rs none (Al
 -- other references, of live values
 referring : (e : Environment) (m : ReferenceMap) → IsConsistentButFrames e → OfRows (λ o. IfSome o (IsLiveAmong e.heap.values)) m → IsMap m
     → LeadsToGood e (with_references m e)
-referring e m g all map = record { good = record { heap = g.heap; referred = all; references = map; pending = g.pending; rooted = g.rooted }; stay = stays e.heap }
+referring e m g all map = record {
+  good = record { heap = g.heap; referred = all; references = map; pending = g.pending; rooted = g.rooted; promises = g.promises };
+  stay = stays e.heap;
+}
 
 counted-good : (e : Environment) (r count : ℕ) → IsConsistentButFrames e → LeadsToGood e (with_references (with_count r count e.references) e)
 counted-good e r count g =
@@ -149,13 +162,33 @@ counted-good e r count g =
     (counted-map r count e.references g.references)
 
 -- ATTACHMENTS, HOOKS, INSTANCE DATA AND TICKETS
--- the registry may change, and whether exit was asked
-besides : (e d new : Environment) → new ≡ record (with_registry d (registry_of new)) { exit_asked = new.exit_asked } → LeadsToGood e d → LeadsToGood e new
-besides e d new alone led =
+-- the registry may change, but for the promises, and whether exit was asked
+besides : (e d new : Environment) → new ≡ record (with_registry d (registry_of new)) { exit_asked = new.exit_asked } → new.promises ≡ d.promises
+    → LeadsToGood e d → LeadsToGood e new
+besides e d new alone kept led =
     let g : IsConsistentButFrames d = led.good in
     let same : LeadsToGood e (record (with_registry d (registry_of new)) { exit_asked = new.exit_asked }) =
-    record { good = record { heap = g.heap; referred = g.referred; references = g.references; pending = g.pending; rooted = g.rooted }; stay = led.stay } in
+    record {
+      good = record {
+        heap = g.heap;
+        referred = g.referred;
+        references = g.references;
+        pending = g.pending;
+        rooted = g.rooted;
+        promises = subst (ArePromisesOf d.heap.values) (sym kept) g.promises;
+      };
+      stay = led.stay;
+    } in
     subst (λ (x : Environment). LeadsToGood e x) (sym alone) same
+
+-- PROMISES
+with-promises : (e d : Environment) (p : Promises) → LeadsToGood e d → ArePromisesOf d.heap.values p → LeadsToGood e (record d { promises = p })
+with-promises e d p led fit =
+    let g : IsConsistentButFrames d = led.good in
+    record {
+      good = record { heap = g.heap; referred = g.referred; references = g.references; pending = g.pending; rooted = g.rooted; promises = fit };
+      stay = led.stay;
+    }
 
 -- CALLS
 does-good : (c : Call) (e : Environment) {made dropped : Option Duty} (d : Environment) → Effect c e made dropped d → IsConsistentButFrames e → LeadsToGood e d
@@ -186,25 +219,38 @@ does-good c e _ does.collects g = record {
     references = emptied-map _ e.references g.references;
     pending = pending-kept e e.pending refl g.pending;
     rooted = rooted-kept e g.rooted;
+    promises = left-promised e g.promises;
   };
   stay = record { rises = omega arith; held = λ h v below. omega arith };
 }
-does-good c e _ (does.adds_hook entry argument) g = besides e e _ refl (unmoved e g)
+does-good c e _ (does.promises n) g =
+    let v : ℕ = e.heap.made + 1 in
+    let heap : Heap = with_new_promise e.heap in
+    let led : LeadsToGood e (with_heap e heap) = in-heap e heap g (with-new-linked e.heap promise_tag g.heap) in
+    with-promises e (with_heap e heap) (with_promise v n e.promises) led
+    (more-promised v n heap.values e.promises (live-pushed e.heap.values (linked_value v promise_tag None)) led.good.promises)
+does-good c e _ (does.settles n h state p is) g =
+    let v : ℕ = handle_value e.heap h in
+    let heap : Heap = with_settler p v e.heap in
+    let keeps : KeepsChildren (IsLiveAmong e.heap.values) (with_link v) = keeps-link (IsLiveAmong e.heap.values) v (handle-live e.heap h g.heap) in
+    let led : LeadsToGood e (with_heap e heap) = in-heap e heap g (with-one-changed e.heap p (with_link v) keeps g.heap) in
+    with-promises e (with_heap e heap) (with_settled n p state e.promises) led (settled-promised n p state heap.values e.promises is led.good.promises)
+does-good c e _ (does.adds_hook entry argument) g = besides e e _ refl refl (unmoved e g)
 does-good c e _ (does.removes_hook entry argument) g =
     let t : Option ℕ = hook_ticket (caller_of e.frames) entry argument e.hooks in
     registered-by e.book t (λ s. LeadsToGood e (withdrawing s (accepts out.Nothing (record e { hooks = unhooked t e.hooks }))).after)
-    (besides e e _ refl (unmoved e g)) (λ n here is. besides e e _ refl (unmoved e g))
-does-good c e _ (does.adds_async entry argument number is) g = besides e e _ refl (unmoved e g)
+    (besides e e _ refl refl (unmoved e g)) (λ n here is. besides e e _ refl refl (unmoved e g))
+does-good c e _ (does.adds_async entry argument number is) g = besides e e _ refl refl (unmoved e g)
 does-good c e _ (does.removes_async number) g =
     let t : Option ℕ = set_ticket number e.async_hooks in
     let left : Environment = record e { hooks = unhooked t e.hooks; async_hooks = with_removed number e.async_hooks } in
     registered-by e.book t (λ s. LeadsToGood e (withdrawing s (accepts out.Nothing left)).after)
-    (besides e e _ refl (unmoved e g)) (λ n here is. besides e e _ refl (unmoved e g))
-does-good c e _ (does.withdraws t on is) g = besides e e _ refl (unmoved e g)
-does-good c e _ (does.asks_exit is) g = besides e e _ refl (unmoved e g)
-does-good c e _ (does.registers {d} payload entry hint before step) g = besides e d _ refl (does-good c e d before g)
-does-good c e _ (does.attaches {d} {a} before on) g = besides e d _ refl (does-good c e d before g)
-does-good c e _ (does.sets {d} i before on) g = besides e d _ refl (does-good c e d before g)
+    (besides e e _ refl refl (unmoved e g)) (λ n here is. besides e e _ refl refl (unmoved e g))
+does-good c e _ (does.withdraws t on is) g = besides e e _ refl refl (unmoved e g)
+does-good c e _ (does.asks_exit is) g = besides e e _ refl refl (unmoved e g)
+does-good c e _ (does.registers {d} payload entry hint before step) g = besides e d _ refl refl (does-good c e d before g)
+does-good c e _ (does.attaches {d} {a} before on) g = besides e d _ refl refl (does-good c e d before g)
+does-good c e _ (does.sets {d} i before on) g = besides e d _ refl refl (does-good c e d before g)
 
 answer-good : (e : Environment) (c : Call) (k : ℕ) → IsConsistentButFrames e → LeadsToGood e (answer e c k).after
 answer-good e c k g =
@@ -226,5 +272,6 @@ call_change-follows e c k old =
       references = led.good.references;
       pending = led.good.pending;
       rooted = led.good.rooted;
+      promises = led.good.promises;
     } in
     record { good = whole-of new good (keeps.heap.depth ∙ old.frames ∙ sym keeps.depth) (omega (arith, keeps.depth, old.depth)); stay = led.stay }

@@ -19,6 +19,7 @@ use Rattle.machine_laws.proofs.ConsistentHeaps.{IsConsistentHeap}
 use Rattle.machine_laws.proofs.ConsistentSteps.{run-follows}
 use Rattle.machine_laws.proofs.Prefixes.{steps-prefix}
 use Rattle.machine_laws.proofs.LiveNumbers.{all-there}
+use Rattle.machine_laws.proofs.PromiseMaps.{none-promised}
 use Rattle.machine_laws.proofs.Rising.{none-map}
 
 -- THE OPENING
@@ -52,7 +53,15 @@ new-heap-good = record {
 pub opening-consistent : (given : OpenedWith) → IsConsistent (new_environment given)
 opening-consistent given =
     let e : Environment = new_environment given in
-    whole-of e (record { heap = new-heap-good; referred = λ k d below. absurd (omega (arith, below)); references = none-map; pending = tt; rooted = λ k d below. absurd (omega (arith, below)) }) refl (omega arith)
+    whole-of e
+    (record {
+      heap = new-heap-good;
+      referred = λ k d below. absurd (omega (arith, below));
+      references = none-map;
+      pending = tt;
+      rooted = λ k d below. absurd (omega (arith, below));
+      promises = none-promised starting_values;
+    }) refl (omega arith)
 
 -- RUNS
 pub environments-are-consistent : EnvironmentsAreConsistent

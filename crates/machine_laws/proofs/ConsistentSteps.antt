@@ -47,7 +47,7 @@ use Rattle.napi_types.proofs.runs.Forms as form
 use Rattle.napi_types.proofs.runs.Forms.{Form, form-of}
 use Rattle.napi_types.proofs.runs.Runs.{along-entries}
 use Rattle.napi_types.proofs.runs.SharedSteps.{after_shared-alone}
-use Rattle.machine_laws.specs.Consistency.{IsConsistent, IsLiveAmong}
+use Rattle.machine_laws.specs.Consistency.{IsConsistent, IsLiveAmong, ArePromisesOf}
 use Rattle.machine_laws.proofs.ConsistentAnswers.{IsConsistentButFrames, LeadsToConsistent, parts-of, whole-of, in-heap, call_change-follows}
 use Rattle.machine_laws.proofs.ConsistentCalls.{handle-live}
 use Rattle.machine_laws.proofs.ConsistentHeaps.{IsConsistentHeap, ComesTo, HandlesStay, stays, stays-then, and-then, unchanged, with-handle, with-frame, without-frame}
@@ -65,13 +65,20 @@ then-follows : (a b c : Environment) → LeadsToConsistent a b → LeadsToConsis
 then-follows a b c one two = record { good = two.good; stay = stays-then a.heap b.heap c.heap one.stay two.stay }
 
 -- THE END OF A FRAME
--- a frame ends, its heap is left for another, an exception that is pending may be cleared, and the registry may change
-ended-follows : (e : Environment) (heap : Heap) (pending : Option ℕ) (s : Status) (r : Registry) → IsConsistent e → ComesTo e.heap heap
-    → length heap.scopes ≡ length (tail e.heap.scopes) → IsConsistentButFrames (record e { heap = heap; pending = pending })
+-- a frame ends, its heap is left for another, an exception that is pending may be cleared, and the registry may change, but for the promises
+ended-follows : (e : Environment) (heap : Heap) (pending : Option ℕ) (s : Status) (r : Registry) → r.promises ≡ e.promises → IsConsistent e
+    → ComesTo e.heap heap → length heap.scopes ≡ length (tail e.heap.scopes) → IsConsistentButFrames (record e { heap = heap; pending = pending })
     → LeadsToConsistent e (record (with_registry e r) { heap = heap; frames = tail e.frames; pending = pending; last = s })
-ended-follows e heap pending s r c comes same g =
+ended-follows e heap pending s r kept c comes same g =
     let new : Environment = record (with_registry e r) { heap = heap; frames = tail e.frames; pending = pending; last = s } in
-    let good : IsConsistentButFrames new = record { heap = g.heap; referred = g.referred; references = g.references; pending = g.pending; rooted = g.rooted } in
+    let good : IsConsistentButFrames new = record {
+      heap = g.heap;
+      referred = g.referred;
+      references = g.references;
+      pending = g.pending;
+      rooted = g.rooted;
+      promises = subst (ArePromisesOf heap.values) (sym kept) g.promises;
+    } in
     record {
       good = whole-of new good (same ∙ length-tail e.heap.scopes e.frames c.frames) (omega (arith, tail-shorter e.frames, c.depth));
       stay = comes.stay;
@@ -82,8 +89,8 @@ kept-ended : (e : Environment) (heap : Heap) (s : Status) → IsConsistent e →
     → LeadsToConsistent e (record e { heap = heap; frames = tail e.frames; last = s })
 kept-ended e heap s c comes same =
     let g : IsConsistentButFrames (record e { heap = heap }) = (in-heap e heap (parts-of e c) comes).good in
-    ended-follows e heap e.pending s (registry_of e) c comes same
-    (record { heap = g.heap; referred = g.referred; references = g.references; pending = g.pending; rooted = g.rooted })
+    ended-follows e heap e.pending s (registry_of e) refl c comes same
+    (record { heap = g.heap; referred = g.referred; references = g.references; pending = g.pending; rooted = g.rooted; promises = g.promises })
 
 left-live : (e : Environment) (v : Option HandleId) → IsConsistentHeap e.heap → IsLiveAmong e.heap.values (left_value e.heap v)
 left-live e None g = g.starting 0 0 (omega arith)
@@ -101,8 +108,8 @@ outermost-follows : (cut : Option Why) (e : Environment) → IsConsistent e → 
 outermost-follows cut e c =
     let left : ComesTo e.heap (without_frame e.heap) = without-frame e.heap (parts-of e c).heap in
     let g : IsConsistentButFrames (record e { heap = without_frame e.heap }) = (in-heap e (without_frame e.heap) (parts-of e c) left).good in
-    ended-follows e (without_frame e.heap) None e.last (registry_ended (duty_of e.frames) (registry_of e)) c left refl
-    (record { heap = g.heap; referred = g.referred; references = g.references; pending = tt; rooted = g.rooted })
+    ended-follows e (without_frame e.heap) None e.last (registry_ended (duty_of e.frames) (registry_of e)) refl c left refl
+    (record { heap = g.heap; referred = g.referred; references = g.references; pending = tt; rooted = g.rooted; promises = g.promises })
 
 frame-follows : (v : Option HandleId) (cut : Option Why) (e : Environment) → IsConsistent e → LeadsToConsistent e (end_change v cut e).after
 frame-follows v cut e c =
@@ -137,7 +144,14 @@ enter_change-follows e receiver f args h c =
     let comes : ComesTo e.heap heap = and-then e.heap (with_frame e.heap) heap frame (with-receiver (with_frame e.heap) receiver frame.good) in
     let led : IsConsistentButFrames (record e { heap = heap }) = (in-heap e heap g comes).good in
     let new : Environment = (enter_change receiver f args e).after in
-    let good : IsConsistentButFrames new = record { heap = led.heap; referred = led.referred; references = led.references; pending = led.pending; rooted = led.rooted } in
+    let good : IsConsistentButFrames new = record {
+      heap = led.heap;
+      referred = led.referred;
+      references = led.references;
+      pending = led.pending;
+      rooted = led.rooted;
+      promises = led.promises;
+    } in
     let asks : length (ask_counted e.frames) ≡ length e.frames = length-changed _ e.frames in
     let scopes : length heap.scopes ≡ length (with_frame e.heap).scopes = length-receiver (with_frame e.heap) receiver in
     record {
@@ -163,7 +177,14 @@ begun-follows e inits book hooks others f none c =
     let frame : ComesTo e.heap (with_frame e.heap) = with-frame e.heap g.heap in
     let led : IsConsistentButFrames (record e { heap = with_frame e.heap }) = (in-heap e (with_frame e.heap) g frame).good in
     let new : Environment = record e { inits = inits; book = book; hooks = hooks; async_hooks = others; heap = with_frame e.heap; frames = f ∷ e.frames } in
-    let good : IsConsistentButFrames new = record { heap = led.heap; referred = led.referred; references = led.references; pending = led.pending; rooted = led.rooted } in
+    let good : IsConsistentButFrames new = record {
+      heap = led.heap;
+      referred = led.referred;
+      references = led.references;
+      pending = led.pending;
+      rooted = led.rooted;
+      promises = led.promises;
+    } in
     record { good = whole-of new good (ap suc c.frames) (omega (arith, ap length none)); stay = frame.stay }
 
 -- A SHARED CALL
@@ -183,14 +204,27 @@ rooted-follows : (e new : Environment) (roots : List TsfnRoot) → All (KeepsLiv
 rooted-follows e new roots all follows same =
     let g : IsConsistentButFrames new = parts-of new follows.good in
     let live : All (KeepsLive new.heap) roots = subst (λ heap. All (KeepsLive heap) roots) (sym same) all in
-    let good : IsConsistentButFrames
-    (record new { tsfn_roots = roots }) = record { heap = g.heap; referred = g.referred; references = g.references; pending = g.pending; rooted = live } in
+    let good : IsConsistentButFrames (record new { tsfn_roots = roots }) = record {
+      heap = g.heap;
+      referred = g.referred;
+      references = g.references;
+      pending = g.pending;
+      rooted = live;
+      promises = g.promises;
+    } in
     record { good = whole-of (record new { tsfn_roots = roots }) good follows.good.frames follows.good.depth; stay = follows.stay }
 
 noted-follows : (e : Environment) (c : Call) (s : Status) → IsConsistent e → LeadsToConsistent e (with_noted_status c s e)
 noted-follows e c s old =
     let g : IsConsistentButFrames e = parts-of e old in
-    let good : IsConsistentButFrames (with_noted_status c s e) = record { heap = g.heap; referred = g.referred; references = g.references; pending = g.pending; rooted = g.rooted } in
+    let good : IsConsistentButFrames (with_noted_status c s e) = record {
+      heap = g.heap;
+      referred = g.referred;
+      references = g.references;
+      pending = g.pending;
+      rooted = g.rooted;
+      promises = g.promises;
+    } in
     other-follows e (with_noted_status c s e) good refl (length-changed _ e.frames) (stays e.heap) old
 
 shared-follows : (e : Environment) (c : Call) (r : Reply) → IsConsistent e → LeadsToConsistent e (after_shared c r e)
@@ -206,7 +240,14 @@ StepFollows m s = LeadsToConsistent m.env s.after.env
 phase-follows : (e : Environment) (p : Phase) → IsConsistent e → LeadsToConsistent e (in_phase p e)
 phase-follows e p c =
     let g : IsConsistentButFrames e = parts-of e c in
-    let good : IsConsistentButFrames (in_phase p e) = record { heap = g.heap; referred = g.referred; references = g.references; pending = g.pending; rooted = g.rooted } in
+    let good : IsConsistentButFrames (in_phase p e) = record {
+      heap = g.heap;
+      referred = g.referred;
+      references = g.references;
+      pending = g.pending;
+      rooted = g.rooted;
+      promises = g.promises;
+    } in
     other-follows e (in_phase p e) good refl refl (stays e.heap) c
 
 ticket-follows : (m : Machine) (n : ℕ) (r : Option Registration) → m.env.frames ≡ [] → IsConsistent m.env → StepFollows m (ticket_step m n r)
@@ -227,7 +268,14 @@ move-follows m (Finishes n) none c =
 event-follows : (m : Machine) (event : Event) → m.env.frames ≡ [] → IsConsistent m.env → StepFollows m (event_step m event)
 event-follows m Opens none c =
     let g : IsConsistentButFrames m.env = parts-of m.env c in
-    let good : IsConsistentButFrames (opening_change m.env).after = record { heap = g.heap; referred = g.referred; references = g.references; pending = g.pending; rooted = g.rooted } in
+    let good : IsConsistentButFrames (opening_change m.env).after = record {
+      heap = g.heap;
+      referred = g.referred;
+      references = g.references;
+      pending = g.pending;
+      rooted = g.rooted;
+      promises = g.promises;
+    } in
     other-follows m.env (opening_change m.env).after good refl refl (stays m.env.heap) c
 event-follows m (Inits n) none c = begun-follows m.env (m.env.inits + 1) m.env.book m.env.hooks m.env.async_hooks (frame_of cause.Init n 0) none c
 event-follows m (Tickets n) none c = ticket-follows m n (registration_at m.env.book n) none c
@@ -236,13 +284,27 @@ event-follows m Goes none c = phase-follows m.env phase.Live c
 event-follows m (EndsLoop w) none c = phase-follows m.env phase.Hooks c
 event-follows m Abandons none c =
     let g : IsConsistentButFrames m.env = parts-of m.env c in
-    let good : IsConsistentButFrames (with_none_waiting m.env) = record { heap = g.heap; referred = g.referred; references = g.references; pending = g.pending; rooted = g.rooted } in
+    let good : IsConsistentButFrames (with_none_waiting m.env) = record {
+      heap = g.heap;
+      referred = g.referred;
+      references = g.references;
+      pending = g.pending;
+      rooted = g.rooted;
+      promises = g.promises;
+    } in
     other-follows m.env (with_none_waiting m.env) good refl refl (stays m.env.heap) c
 event-follows m Drains none c = phase-follows m.env phase.Drain c
 event-follows m FinalsCome none c = phase-follows m.env phase.Finals c
 event-follows m IsGone none c =
     let g : IsConsistentButFrames m.env = parts-of m.env c in
-    let good : IsConsistentButFrames (gone_change m.env).after = record { heap = g.heap; referred = g.referred; references = g.references; pending = g.pending; rooted = g.rooted } in
+    let good : IsConsistentButFrames (gone_change m.env).after = record {
+      heap = g.heap;
+      referred = g.referred;
+      references = g.references;
+      pending = g.pending;
+      rooted = g.rooted;
+      promises = g.promises;
+    } in
     other-follows m.env (gone_change m.env).after good refl refl (stays m.env.heap) c
 
 call-step-follows : (m : Machine) (c : Call) (o : Out) (b : Bool) → IsConsistent m.env → StepFollows m (call_step_on b m c o)

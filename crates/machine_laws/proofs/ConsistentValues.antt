@@ -8,10 +8,10 @@ use Rattle.napi_types.specs.declared.body.Body.{Body}
 use Rattle.napi_types.specs.declared.ids.TextNo.{TextNo}
 use Rattle.napi_types.specs.plain.Lists.{has_number}
 use Rattle.napi_types.specs.parts.Heap.{Heap, handle_value}
-use Rattle.napi_types.specs.parts.HeapChanges.{with_handle, with_value, with_error, with_thrown, with_list, with_changed, thrown_number}
+use Rattle.napi_types.specs.parts.HeapChanges.{with_handle, with_value, with_linked, with_error, with_thrown, with_list, with_changed, thrown_number}
 use Rattle.napi_types.specs.parts.NewValues.{made_after, array_of, list_of, error_of, code_property, thrown_of, thrown_strings}
 use Rattle.napi_types.specs.parts.Reach.{numbers}
-use Rattle.napi_types.specs.parts.Values.{Value, fresh_value, starting_values, value_changed}
+use Rattle.napi_types.specs.parts.Values.{Value, fresh_value, linked_value, starting_values, value_changed}
 use Rattle.napi_types.proofs.parts.ChildParts.{children-of}
 use Rattle.machine_laws.specs.Consistency.{AreIssued, values_of_handles, IsLiveAmong}
 use Rattle.machine_laws.proofs.Children.{OfChildren, KeepsChildren, named_values}
@@ -53,14 +53,22 @@ with-new heap b g =
     and-then heap (with_value b heap) (with_handle (heap.made + 1) (with_value b heap)) made
     (with-handle (with_value b heap) (heap.made + 1) made.good (live-pushed heap.values (fresh_value (heap.made + 1) b)))
 
+-- a new linked value and its handle
+pub with-new-linked : (heap : Heap) (tag : ℕ) → IsConsistentHeap heap → ComesTo heap (with_handle (heap.made + 1) (with_linked tag heap))
+with-new-linked heap tag g =
+    let x : Value = linked_value (heap.made + 1) tag None in
+    let made : ComesTo heap (with_linked tag heap) = with-pushed heap x refl (All-nil (IsLiveAmong (with_linked tag heap).values)) g in
+    and-then heap (with_linked tag heap) (with_handle (heap.made + 1) (with_linked tag heap)) made
+    (with-handle (with_linked tag heap) (heap.made + 1) made.good (live-pushed heap.values x))
+
 -- a value that is changed
-pub with-changed : (heap : Heap) (h : ℕ) (change : Value → Value) → KeepsChildren (IsLiveAmong heap.values) change → IsConsistentHeap heap
-    → ComesTo heap (with_changed h change heap)
-with-changed heap h change keeps g =
+pub with-one-changed : (heap : Heap) (n : ℕ) (change : Value → Value) → KeepsChildren (IsLiveAmong heap.values) change → IsConsistentHeap heap
+    → ComesTo heap (with_values heap (value_changed n change heap.values) heap.made)
+with-one-changed heap n change keeps g =
     let P : ℕ → Type 0 = IsLiveAmong heap.values in
-    let new : List Value = value_changed (handle_value heap h) change heap.values in
-    let own : All (OfChildren P) new = children-changed P (handle_value heap h) change heap.values keeps g.children in
-    let same : numbers heap.values ≡ numbers new = sym (numbers-changed P (handle_value heap h) change heap.values keeps) in
+    let new : List Value = value_changed n change heap.values in
+    let own : All (OfChildren P) new = children-changed P n change heap.values keeps g.children in
+    let same : numbers heap.values ≡ numbers new = sym (numbers-changed P n change heap.values keeps) in
     record {
       good = record {
         handles = g.handles;
@@ -72,6 +80,10 @@ with-changed heap h change keeps g =
       live = λ n. subst (λ ns. IsLiveAmong heap.values n → has_number n ns ≡ true) same (λ k. k);
       stay = record { rises = omega arith; held = λ k v below. omega arith };
     }
+
+pub with-changed : (heap : Heap) (h : ℕ) (change : Value → Value) → KeepsChildren (IsLiveAmong heap.values) change → IsConsistentHeap heap
+    → ComesTo heap (with_changed h change heap)
+with-changed heap h change keeps g = with-one-changed heap (handle_value heap h) change keeps g
 
 -- values of these bodies, one after another
 pub with-made : (heap : Heap) (bs : List Body) → IsConsistentHeap heap

@@ -72,7 +72,7 @@ distinct-none : IsDistinct nat_eq []
 unfolding IsDistinct
 distinct-none = tt
 
-distinct-from : (ns : List ℕ) → ((n : ℕ) → times n ns ≤ 1) → IsDistinct nat_eq ns
+pub distinct-from : (ns : List ℕ) → ((n : ℕ) → times n ns ≤ 1) → IsDistinct nat_eq ns
 distinct-from [] h = distinct-none
 distinct-from (m ∷ ns) h =
     let P : ℕ → Type 0 = λ k. nat_eq m k ≡ false in

@@ -62,6 +62,7 @@ asked-ignored = record {
   book = λ d x. refl;
   hooks = λ d x. refl;
   async_hooks = λ d x. refl;
+  promises = λ d x. refl;
   instances = λ d x. refl;
   pending = λ d x. refl;
   last = λ d x. refl;

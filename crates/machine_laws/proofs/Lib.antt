@@ -24,6 +24,8 @@ mod LiveNumbers
 mod Misses
 mod Naming
 mod Others
+mod PromiseMaps
+mod PromisesKept
 mod Rising
 mod RowLists
 mod Settling

@@ -1,6 +1,7 @@
 -- What it takes to show that entries are no run.
 use Rattle.std.proofs.Common.{◌≡◌, ℕ, Bool, false, not, ◌&&◌, List, [], ◌∷◌, IsTrue, refl, ap, Option, Some, None, is_none, subst, slice_index_or}
 use Rattle.napi_types.specs.declared.call.Ask.{Ask}
+use Rattle.napi_types.specs.declared.call.Call.TheVariants as call
 use Rattle.napi_types.specs.declared.entry.Actor.{Actor}
 use Rattle.napi_types.specs.declared.entry.Actor.TheVariants as actor
 use Rattle.napi_types.specs.declared.entry.Cause.{Cause}
@@ -50,6 +51,11 @@ told_number d _ = d
 abbrev pub told_handle : ℕ → Out → ℕ
 told_handle d (out.Handle h) = h.0
 told_handle d _ = d
+
+-- the handle of a promise
+abbrev pub told_promise : ℕ → Out → ℕ
+told_promise d (out.Promise deferred h) = h.0
+told_promise d _ = d
 
 abbrev pub told_flag : Bool → Out → Bool
 told_flag d (out.Flag b) = b
@@ -116,6 +122,12 @@ completed_of d _ = d
 abbrev pub told_completed : ℕ → Out → ℕ
 told_completed d (out.Begin cause addon entry due) = completed_of d due
 told_completed d _ = d
+
+-- the deferred that a call settles
+abbrev pub settled_deferred : ℕ → What → ℕ
+settled_deferred d (what.Call (call.ResolveDeferred deferred h)) = deferred.0
+settled_deferred d (what.Call (call.RejectDeferred deferred h)) = deferred.0
+settled_deferred d _ = d
 
 -- the target that the environment handed to the hub
 abbrev target_or : Target → Option Target → Target

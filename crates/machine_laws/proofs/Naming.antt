@@ -12,7 +12,10 @@ use Rattle.napi_types.specs.parts.HeapRefusals.{refusal_in}
 use Rattle.napi_types.specs.parts.ReferenceRefusals.{reference_refusal}
 use Rattle.napi_types.specs.environment.Environment.{Environment}
 use Rattle.napi_types.specs.environment.HookCalls.{hook_refusal}
+use Rattle.napi_types.specs.environment.PromiseCalls.{promise_refusal}
+use Rattle.napi_types.specs.environment.ReferenceCalls.{referring_refusal}
 use Rattle.napi_types.specs.environment.Refusals.{refusal_by_state}
+use Rattle.napi_types.specs.environment.WrapCalls.{attachment_refusal}
 use Rattle.napi_types.proofs.plain.Lists.{option_or-none}
 use Rattle.machine_laws.specs.CallLaws.{attached_refusal, NamesHooksAlone, ReferencesAreNamedAlone, HooksAreNamedAlone}
 
@@ -38,6 +41,22 @@ on-references e c unhooked unattached alone =
       order = alone ∙ sym (ap (λ o. option_or o (hook_refusal e c)) within ∙ ap (option_or r) unhooked ∙ option_or-none r);
     }
 
+-- a call that nothing but the heap and its deferred can refuse
+on-promises : (e : Environment) (c : Call) → hook_refusal e c ≡ None → reference_refusal e.references c ≡ None
+    → option_or (referring_refusal e c) (attachment_refusal e.attachments e.heap c) ≡ None
+    → refusal_by_state e c ≡ option_or (refusal_in e.texts e.heap c) (promise_refusal e.promises c) → NamesHooksAlone e c
+on-promises e c unhooked unreferred unattached alone =
+    let p : Option Status = promise_refusal e.promises c in
+    let within : attached_refusal e c ≡ option_or (refusal_in e.texts e.heap c) p =
+    ap (λ o. option_or (refusal_in e.texts e.heap c) (option_or p o)) unattached ∙ ap (option_or (refusal_in e.texts e.heap c)) (option_or-none p) in
+    let same : option_or (reference_refusal e.references c) (attached_refusal e c) ≡ refusal_by_state e c =
+    ap (λ o. option_or o (attached_refusal e c)) unreferred ∙ within ∙ sym alone in
+    record {
+      alone = inl unhooked;
+      first = sym (ap (λ o. option_or o (option_or (reference_refusal e.references c) (attached_refusal e c))) unhooked ∙ same);
+      order = sym (ap (λ o. option_or o (hook_refusal e c)) same ∙ ap (option_or (refusal_by_state e c)) unhooked ∙ option_or-none (refusal_by_state e c));
+    }
+
 pub hooks-alone : HooksAreNamedAlone
 hooks-alone e (call.AddEnvCleanupHook entry argument) = record {
   alone = inr (refl, refl, refl);
@@ -59,6 +78,8 @@ hooks-alone e (call.DeleteReference r) = on-references e (call.DeleteReference r
 hooks-alone e (call.ReferenceRef r) = on-references e (call.ReferenceRef r) refl refl refl
 hooks-alone e (call.ReferenceUnref r) = on-references e (call.ReferenceUnref r) refl refl refl
 hooks-alone e (call.GetReferenceValue r) = on-references e (call.GetReferenceValue r) refl refl refl
+hooks-alone e (call.ResolveDeferred d v) = on-promises e (call.ResolveDeferred d v) refl refl refl refl
+hooks-alone e (call.RejectDeferred d v) = on-promises e (call.RejectDeferred d v) refl refl refl refl
 hooks-alone e c = record { alone = inl refl; first = refl; order = sym (option_or-none (option_or (reference_refusal e.references c) (attached_refusal e c))) }
 
 -- one of the list fails the test, so not all pass it

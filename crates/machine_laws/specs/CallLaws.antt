@@ -5,7 +5,7 @@ use Rattle.napi_types.specs.declared.body.Body.TheVariants as body
 use Rattle.napi_types.specs.declared.call.Call.{Call}
 use Rattle.napi_types.specs.declared.call.Call.TheVariants as call
 use Rattle.napi_types.specs.declared.call.CallGroup.{CallGroup}
-use Rattle.napi_types.specs.declared.call.CallGroup.TheVariants.{OnValues, OnProperties, OnFunctions, OnScopes, OnReferences, OnWraps, OnExternals, OnEntering, OnExceptions, OnInstances, OnHooks, OnWorks, OnTsfns, OnVersion, OnCollection, OnExit}
+use Rattle.napi_types.specs.declared.call.CallGroup.TheVariants.{OnValues, OnProperties, OnFunctions, OnScopes, OnReferences, OnWraps, OnExternals, OnEntering, OnExceptions, OnInstances, OnHooks, OnPromises, OnWorks, OnTsfns, OnVersion, OnCollection, OnExit}
 use Rattle.napi_types.specs.declared.call.JobSpec.{JobSpec}
 use Rattle.napi_types.specs.declared.call.Mode.{Mode}
 use Rattle.napi_types.specs.declared.entry.Out.TheVariants as out
@@ -35,6 +35,7 @@ use Rattle.napi_types.specs.environment.Environment.{Environment}
 use Rattle.napi_types.specs.environment.Groups.{call_group}
 use Rattle.napi_types.specs.environment.HookCalls.{hook_refusal}
 use Rattle.napi_types.specs.environment.Moments.{refusal_by_moment}
+use Rattle.napi_types.specs.environment.PromiseCalls.{promise_refusal}
 use Rattle.napi_types.specs.environment.ReferenceCalls.{referring_refusal}
 use Rattle.napi_types.specs.environment.Refusals.{refusal_by_state, refusal_before_depth, depth_refusal, refusal}
 use Rattle.napi_types.specs.environment.WrapCalls.{attachment_refusal}
@@ -141,8 +142,8 @@ pub record NeedsAndGrowth : Type 0 where
 -- the groups of calls
 abbrev pub every_group : List CallGroup
 every_group =
-    OnValues ∷ OnProperties ∷ OnFunctions ∷ OnScopes ∷ OnReferences ∷ OnWraps ∷ OnExternals ∷ OnEntering ∷ OnExceptions ∷ OnInstances ∷ OnHooks ∷ OnWorks ∷ OnTsfns
-    ∷ OnVersion ∷ OnCollection ∷ OnExit ∷ []
+    OnValues ∷ OnProperties ∷ OnFunctions ∷ OnScopes ∷ OnReferences ∷ OnWraps ∷ OnExternals ∷ OnEntering ∷ OnExceptions ∷ OnInstances
+    ∷ OnHooks ∷ OnPromises ∷ OnWorks ∷ OnTsfns ∷ OnVersion ∷ OnCollection ∷ OnExit ∷ []
 
 -- what each of them says of a call
 abbrev pub groups : Environment → Call → ℕ → List (Option (Answer Environment))
@@ -176,9 +177,11 @@ pub record NamesReferencesAlone (e : Environment) (c : Call) : Type 0 where
 abbrev pub ReferencesAreNamedAlone : Type 0
 ReferencesAreNamedAlone = (e : Environment) (c : Call) → NamesReferencesAlone e c
 
--- the first refusal that the heap tells, or else that of a value to which no reference is made, or that of what is attached to a value
+-- the first refusal that the heap tells, or else that of a deferred, that of a value to which no reference is made, or that of what is attached to a value
 abbrev pub attached_refusal : Environment → Call → Option Status
-attached_refusal e c = option_or (refusal_in e.texts e.heap c) (option_or (referring_refusal e c) (attachment_refusal e.attachments e.heap c))
+attached_refusal e c =
+    option_or (refusal_in e.texts e.heap c)
+    (option_or (promise_refusal e.promises c) (option_or (referring_refusal e c) (attachment_refusal e.attachments e.heap c)))
 
 -- a call on hooks names no reference, no handle and no text, so it shows nowhere either whether the hooks are asked before all that or after it
 pub record NamesHooksAlone (e : Environment) (c : Call) : Type 0 where

@@ -1,9 +1,10 @@
 -- What holds of the environment at every moment of a run.
-use Rattle.std.specs.Prelude.{◌≡◌, ◌<◌, ◌≤◌, ℕ, nat_eq, true, List, [], ◌∷◌, length, map}
+use Rattle.std.specs.Prelude.{◌≡◌, ◌<◌, ◌≤◌, ℕ, nat_eq, true, List, [], ◌∷◌, length, map, Some}
 use Rattle.std.specs.List.{All, IsDistinct}
 use Rattle.std.specs.Option.{IfSome}
 use Rattle.napi_types.specs.plain.Lists.{has_number}
 use Rattle.napi_types.specs.parts.Frames.{most_frames}
+use Rattle.napi_types.specs.parts.Promises.{Promises, promise_state}
 use Rattle.napi_types.specs.parts.Reach.{numbers}
 use Rattle.napi_types.specs.parts.References.{ReferenceMap}
 use Rattle.napi_types.specs.parts.Scopes.{FrameScopes, held_by_frames}
@@ -37,7 +38,23 @@ pub record IsMap (m : ReferenceMap) : Type 0 where
   pub numbers : RisesBy (λ n. n) m.issued
   pub issued : All (λ r. has_number r.number m.issued ≡ true) m.rows
 
--- handles, values, references and frames fit together
+-- promises and their deferreds as finite maps: the promises lie by rising number of their values, the deferreds by rising number, and so do the numbers that
+-- were issued, of which each deferred has one. Each deferred is that of a promise which is pending, and no two are of the same
+pub record IsPromiseMap (p : Promises) : Type 0 where
+  pub promises : RisesBy (λ r. r.value) p.promises
+  pub deferreds : RisesBy (λ d. d.number) p.deferreds
+  pub numbers : RisesBy (λ n. n) p.issued
+  pub issued : All (λ d. has_number d.number p.issued ≡ true) p.deferreds
+  pub pending : All (λ d. promise_state p d.promise ≡ Some 0) p.deferreds
+  pub apart : IsDistinct nat_eq (map (λ d. d.promise) p.deferreds)
+
+-- each promise is one of these values, and so is that of each deferred
+pub record ArePromisesOf (vs : List Value) (p : Promises) : Type 0 where
+  pub rows : IsPromiseMap p
+  pub live : All (λ r. IsLiveAmong vs r.value) p.promises
+  pub deferred : All (λ d. IsLiveAmong vs d.promise) p.deferreds
+
+-- handles, values, references, promises and frames fit together
 pub record IsConsistent (e : Environment) : Type 0 where
   -- the handles in open scopes were issued, each once, and so were the creation numbers of the values
   pub handles : AreIssued e.heap.handles (held_handles e.heap.scopes)
@@ -50,6 +67,8 @@ pub record IsConsistent (e : Environment) : Type 0 where
   pub rooted : All (λ r. IsLiveAmong e.heap.values r.value) e.tsfn_roots
   -- the references are a finite map
   pub references : IsMap e.references
+  -- the promises and their deferreds are finite maps, of live values
+  pub promises : ArePromisesOf e.heap.values e.promises
   -- the children of a value are live, and so are the starting values
   pub children : All (λ v. All (IsLiveAmong e.heap.values) (children v)) e.heap.values
   pub starting : All (IsLiveAmong e.heap.values) (numbers starting_values)

@@ -5,6 +5,7 @@ use Rattle.napi_types.specs.declared.entry.Cause.TheVariants as cause
 use Rattle.napi_types.specs.parts.Frames.{Frame, frame_of, most_frames}
 use Rattle.napi_types.specs.parts.Heap.{Heap, new_heap}
 use Rattle.napi_types.specs.parts.NewValues.{array_of}
+use Rattle.napi_types.specs.parts.Promises.{Promise, Deferred}
 use Rattle.napi_types.specs.parts.References.{Reference, with_reference, no_references}
 use Rattle.napi_types.specs.parts.Scopes.{OpenHandle, no_handles}
 use Rattle.napi_types.specs.parts.Values.{undefined_value, null_value, starting_values, fresh_value}
@@ -46,6 +47,17 @@ reference n = record { number = n; value = Some undefined_value; count = 0 }
 abbrev pub referring : List Reference → List ℕ → Environment
 referring rs ns = record (in_init_frame (holding two_held)) { references = record { rows = rs; issued = ns } }
 
+-- a promise that is this value, with this state, and a deferred of this number and of this promise
+abbrev pub promise : ℕ → ℕ → Promise
+promise value state = record { value = value; state = state; reactions = [] }
+
+abbrev pub deferred : ℕ → ℕ → Deferred
+deferred n value = record { number = n; promise = value }
+
+-- an environment with such promises and deferreds, where these numbers were issued
+abbrev pub promising : List Promise → List Deferred → List ℕ → Environment
+promising rs ds ns = record (in_init_frame (holding two_held)) { promises = record { promises = rs; deferreds = ds; issued = ns } }
+
 -- one with a thread-safe function that keeps this value alive
 abbrev pub rooting : ℕ → Environment
 rooting value = record (in_init_frame (holding two_held)) { tsfn_roots = record { function = 1; value = value } ∷ [] }
@@ -56,10 +68,12 @@ deep n = record small_environment { heap = record new_heap { scopes = replicate 
 
 -- near misses are not consistent
 pub record IsStrict : Type 0 where
-  -- two handles of two values are consistent, as many frames as may stand, and a thread-safe function that keeps a value alive
+  -- two handles of two values are consistent, as many frames as may stand, a thread-safe function that keeps a value alive, and two promises, of which one is
+  -- settled and the other has a deferred
   pub fits : IsConsistent (in_init_frame (holding two_held))
   pub fits_deep : IsConsistent (deep most_frames)
   pub fits_rooted : IsConsistent (rooting undefined_value)
+  pub fits_promised : IsConsistent (promising (promise undefined_value 1 ∷ promise null_value 0 ∷ []) (deferred 2 null_value ∷ []) (1 ∷ 2 ∷ []))
   -- no handle stands twice, not of one value either, and none was not issued
   pub twice : (v w : ℕ) → IsConsistent (in_init_frame (holding (handle_to v 1 ∷ handle_to w 1 ∷ []))) → ⊥
   pub unissued : IsConsistent (in_init_frame (holding (handle_to undefined_value 1 ∷ handle_to null_value 3 ∷ []))) → ⊥
@@ -81,6 +95,19 @@ pub record IsStrict : Type 0 where
   pub falling : IsConsistent (referring (reference 2 ∷ reference 1 ∷ []) (1 ∷ 2 ∷ [])) → ⊥
   pub falling_numbers : IsConsistent (referring (reference 1 ∷ reference 2 ∷ []) (2 ∷ 1 ∷ [])) → ⊥
   pub uncounted : IsConsistent (referring (reference 1 ∷ []) (2 ∷ [])) → ⊥
+  -- no promise is a number that no value has. No deferred is of a value that is no promise, nor of one that is settled, and no two are of the same
+  pub dead : IsConsistent (promising (promise no_value 0 ∷ []) [] []) → ⊥
+  pub unpromised : IsConsistent (promising (promise null_value 0 ∷ []) (deferred 1 undefined_value ∷ []) (1 ∷ [])) → ⊥
+  pub settled : (state : ℕ) → IsConsistent (promising (promise null_value (state + 1) ∷ []) (deferred 1 null_value ∷ []) (1 ∷ [])) → ⊥
+  pub shared : IsConsistent (promising (promise null_value 0 ∷ []) (deferred 1 null_value ∷ deferred 2 null_value ∷ []) (1 ∷ 2 ∷ [])) → ⊥
+  -- no promises lie by falling number of their values, no deferreds and no numbers that were issued by falling number, and no deferred's number was not issued
+  pub falling_promises : IsConsistent (promising (promise null_value 1 ∷ promise undefined_value 1 ∷ []) [] []) → ⊥
+  pub falling_deferreds : IsConsistent (promising
+      (promise undefined_value 0 ∷ promise null_value 0 ∷ [])
+      (deferred 2 undefined_value ∷ deferred 1 null_value ∷ [])
+      (1 ∷ 2 ∷ [])) → ⊥
+  pub falling_issued : IsConsistent (promising [] [] (2 ∷ 1 ∷ [])) → ⊥
+  pub unissued_deferred : IsConsistent (promising (promise null_value 0 ∷ []) (deferred 1 null_value ∷ []) (2 ∷ [])) → ⊥
   -- a starting value is there
   pub starting : IsConsistent (in_init_frame (record (holding []) { values = [] })) → ⊥
   -- no frame is without scopes, and one more than may stand does not

@@ -41,6 +41,9 @@ pub mod PendingException
 pub mod PlaceMisses
 pub mod PlacesAlong
 pub mod PlacesOfWorks
+pub mod PromiseCollected
+pub mod PromiseLaws
+pub mod PromiseRun
 pub mod PropertiesAndElements
 pub mod RealisticAddon
 pub mod ReferenceCounts

@@ -14,6 +14,8 @@ pub mod handles;
 pub mod hook_runs;
 pub mod hub_runs;
 pub mod maps;
+pub mod promise_runs;
+pub mod promises;
 pub mod room_runs;
 pub mod runs;
 pub mod scope_runs;

@@ -1,0 +1,304 @@
+-- Promises and their deferreds stay finite maps, and fit the values, as promises are made, settled and collected.
+use Rattle.std.proofs.Common.{◌≡◌, ◌≤◌, ◌∙◌, arith, ℕ, ◌+◌, ◌==◌, nat_eq, nat_lt, Bool, true, false, not, cond, List, [], ◌∷◌, map, filter, refl, ap, subst, Option, Some, None, option_map, slice_index_or, inl, inr}
+use Rattle.std.specs.List.{All, IsDistinct, count_by}
+use Rattle.std.proofs.lemmas.Bool.{eq-eqb, ne_eqb, cases_eq, le-ltb, ltb-true, or_left, or_right}
+use Rattle.std.proofs.lemmas.List.Elements.{All-nil, All-cons, All-filter, All-map, All-weaker, filter_passes}
+use Rattle.std.proofs.lemmas.Map.Keys.{IsDistinct-head, IsDistinct-tail}
+use Rattle.napi_types.specs.plain.Lists.{found, has_number, with_record, with_number}
+use Rattle.napi_types.specs.parts.Promises.{Promise, Deferred, Promises, no_promises, deferred_promise, with_promise, with_settled, promises_left}
+use Rattle.napi_types.specs.parts.Values.{Value}
+use Rattle.napi_types.specs.environment.Collection.{is_freed}
+use Rattle.napi_types.specs.environment.Environment.{Environment}
+use Rattle.napi_types.specs.environment.Roots.{reach}
+use Rattle.napi_types.proofs.plain.Found.{found-All, found-changed, found-filter, found-number, found-with_record, has-with_number, rising-changed, rising-filter, rising-with_record, same-self, turned}
+use Rattle.napi_types.proofs.plain.Maps.{All-with_record}
+use Rattle.napi_types.proofs.plain.Tallies.{tally-append}
+use Rattle.machine_laws.specs.Consistency.{ArePromisesOf, IsLiveAmong, IsPromiseMap}
+use Rattle.machine_laws.proofs.Collected.{kept, live-reached, of-each, within-filter}
+use Rattle.machine_laws.proofs.Counting.{Within, count-cons, distinct-from, distinct-times, one_when, times, within-map}
+
+-- the value of a promise, and the number and the promise of a deferred
+abbrev pub promised_value : Promise → ℕ
+promised_value r = r.value
+
+abbrev pub deferred_number : Deferred → ℕ
+deferred_number d = d.number
+
+abbrev pub deferred_value : Deferred → ℕ
+deferred_value d = d.promise
+
+-- TESTS
+passes-not : (b : Bool) → not b ≡ true → b ≡ false
+passes-not false is = refl
+passes-not true is = cc
+
+passes-stay : (b : Bool) → not (not b) ≡ true → b ≡ true
+passes-stay true is = refl
+passes-stay false is = cc
+
+-- LISTS
+-- a finite map with one record more has no more of anything than the others and this one
+module _ {A : Type 0} (number : A → ℕ) (x : A) (p : A → Bool) where
+  parts-fewer : (xs : List A)
+      → count_by p (filter (λ y. nat_lt (number y) (number x)) xs) + count_by p (filter (λ y. nat_lt (number x) (number y)) xs) ≤ count_by p xs
+  parts-fewer [] = omega arith
+  parts-fewer (y ∷ ys) =
+      by (nat_lt (number y) (number x)) (nat_lt (number x) (number y))
+      (λ below. le-ltb (number x) (number y) (omega (arith, ltb-true (number y) (number x) below))) (parts-fewer ys)
+    where
+      lower : List A
+      lower = filter (λ z. nat_lt (number z) (number x)) ys
+
+      higher : List A
+      higher = filter (λ z. nat_lt (number x) (number z)) ys
+
+      by : (a b : Bool) → (a ≡ true → b ≡ false) → count_by p lower + count_by p higher ≤ count_by p ys
+          → count_by p (cond a (y ∷ lower) lower) + count_by p (cond b (y ∷ higher) higher) ≤ count_by p (y ∷ ys)
+      by true true apart rest = let no = apart refl in cc
+      by true false apart rest = omega (arith, rest, count-cons p y lower, count-cons p y ys)
+      by false true apart rest = omega (arith, rest, count-cons p y higher, count-cons p y ys)
+      by false false apart rest = omega (arith, rest, count-cons p y ys)
+
+within-with_record : {A : Type 0} (number : A → ℕ) (x : A) (xs : List A) → Within (with_record number x xs) xs (x ∷ [])
+within-with_record number x xs p =
+    let higher = filter (λ y. nat_lt (number x) (number y)) xs in
+    omega (
+      arith,
+      tally-append p (filter (λ y. nat_lt (number y) (number x)) xs) (x ∷ higher),
+      count-cons p x higher,
+      count-cons p x [],
+      parts-fewer number x p xs,
+    )
+
+-- PROMISES THAT ARE PENDING
+-- the state of the promise of a value
+abbrev state_among : List Promise → ℕ → Option ℕ
+state_among rs v = option_map (λ (r : Promise). r.state) (found promised_value v rs)
+
+abbrev IsPendingAmong : List Promise → Deferred → Type 0
+IsPendingAmong rs d = state_among rs d.promise ≡ Some 0
+
+-- a new one is pending, and the others are as they were
+abbrev pending_promise : ℕ → Promise
+pending_promise v = record { value = v; state = 0; reactions = [] }
+
+new-state : (v : ℕ) (rs : List Promise) → state_among (with_record promised_value (pending_promise v) rs) v ≡ Some 0
+new-state v rs =
+    ap (option_map (λ (r : Promise). r.state))
+    (found-with_record promised_value v (pending_promise v) rs ∙ ap (λ b. cond b (Some (pending_promise v)) (found promised_value v rs)) (same-self v))
+
+old-state : (v m : ℕ) (rs : List Promise) → (m == v) ≡ false → state_among (with_record promised_value (pending_promise v) rs) m ≡ state_among rs m
+old-state v m rs other =
+    ap (option_map (λ (r : Promise). r.state))
+    (found-with_record promised_value m (pending_promise v) rs
+    ∙ ap (λ b. cond b (Some (pending_promise v)) (found promised_value m rs)) (turned v m ∙ other))
+
+-- so are all but the one that is settled
+same-value : (v state : ℕ) (r : Promise) (b : Bool) → (cond b (record r { state = state }) r).value ≡ r.value
+same-value v state r true = refl
+same-value v state r false = refl
+
+abbrev pub settled_promise : ℕ → ℕ → Promise → Promise
+settled_promise v state r = cond (r.value == v) (record r { state = state }) r
+
+kept-value : (v state : ℕ) (r : Promise) → (settled_promise v state r).value ≡ r.value
+kept-value v state r = same-value v state r (r.value == v)
+
+other-state : (v state m : ℕ) (rs : List Promise) → (m == v) ≡ false → state_among (map (settled_promise v state) rs) m ≡ state_among rs m
+other-state v state m rs other =
+    ap (option_map (λ (r : Promise). r.state)) (found-changed promised_value (settled_promise v state) (kept-value v state) m rs)
+    ∙ by (found promised_value m rs) refl
+  where
+    by : (o : Option Promise) → found promised_value m rs ≡ o
+        → option_map (λ (r : Promise). r.state) (option_map (settled_promise v state) o) ≡ option_map (λ (r : Promise). r.state) o
+    by None is = refl
+    by (Some r) is =
+        ap (λ b. Some (cond b (record r { state = state }) r).state) (ap (λ k. k == v) (found-number promised_value m rs r is) ∙ other)
+
+-- DEFERREDS OF DIFFERENT PROMISES
+abbrev AreOfOwnPromises : List Deferred → Type 0
+AreOfOwnPromises ds = IsDistinct nat_eq (map deferred_value ds)
+
+apart-fewer : (test : Deferred → Bool) (ds : List Deferred) → AreOfOwnPromises ds → AreOfOwnPromises (filter test ds)
+apart-fewer test ds apart =
+    distinct-from (map deferred_value (filter test ds))
+    (λ m. omega (arith, within-map deferred_value (filter test ds) ds [] (within-filter test ds) (λ k. k == m), distinct-times m (map deferred_value ds) apart))
+
+-- without those of a promise none is
+abbrev of_others : ℕ → List Deferred → List Deferred
+of_others v ds = filter (λ d. not (d.promise == v)) ds
+
+gone-times : (v : ℕ) (ds : List Deferred) → times v (map deferred_value (of_others v ds)) ≡ 0
+gone-times v [] = refl
+gone-times v (d ∷ ds) = by (d.promise == v) refl (gone-times v ds)
+  where
+    by : (b : Bool) → (d.promise == v) ≡ b → times v (map deferred_value (of_others v ds)) ≡ 0
+        → times v (map deferred_value (cond (not b) (d ∷ of_others v ds) (of_others v ds))) ≡ 0
+    by true is later = later
+    by false is later = omega (arith, later, count-cons (λ k. k == v) d.promise (map deferred_value (of_others v ds)), ap one_when is)
+
+apart-more : (v n : ℕ) (ds : List Deferred) → AreOfOwnPromises ds
+    → AreOfOwnPromises (with_record deferred_number (record { number = n; promise = v }) (of_others v ds))
+apart-more v n ds apart = distinct-from (map deferred_value new) at-most
+  where
+    x : Deferred
+    x = record { number = n; promise = v }
+
+    new : List Deferred
+    new = with_record deferred_number x (of_others v ds)
+
+    within : Within (map deferred_value new) (map deferred_value (of_others v ds)) (v ∷ [])
+    within = within-map deferred_value new (of_others v ds) (x ∷ []) (within-with_record deferred_number x (of_others v ds))
+
+    itself : times v (map deferred_value new) ≤ 1
+    itself = omega (arith, within (λ k. k == v), count-cons (λ k. k == v) v [], ap one_when (eq-eqb v v refl), gone-times v ds)
+
+    at-most : (m : ℕ) → times m (map deferred_value new) ≤ 1
+    at-most m =
+        elim (cases_eq v m) [
+          | inl same ↦ subst (λ k. times k (map deferred_value new) ≤ 1) same itself
+          | inr other ↦
+              let fewer : times m (map deferred_value (of_others v ds)) ≤ 1 =
+              distinct-times m (map deferred_value (of_others v ds)) (apart-fewer (λ d. not (d.promise == v)) ds apart) in
+              omega (arith, within (λ k. k == m), count-cons (λ k. k == m) v [], ap one_when (ne_eqb v m other), fewer)
+        ]
+
+-- no deferred but that of a number is of its promise
+abbrev pub of_other_numbers : ℕ → List Deferred → List Deferred
+of_other_numbers n ds = filter (λ d. not (d.number == n)) ds
+
+pub others-apart : (n v : ℕ) (ds : List Deferred) → AreOfOwnPromises ds → option_map deferred_value (found deferred_number n ds) ≡ Some v
+    → All (λ d. (d.promise == v) ≡ false) (of_other_numbers n ds)
+others-apart n v [] apart is = All-nil (λ d. (d.promise == v) ≡ false)
+others-apart n v (d ∷ ds) apart is = by (d.number == n) is (others-apart n v ds (IsDistinct-tail nat_eq d.promise (map deferred_value ds) apart))
+  where
+    P : Deferred → Type 0
+    P x = (x.promise == v) ≡ false
+
+    heads : All (λ x. nat_eq d.promise x.promise ≡ false) ds
+    heads = of-each (λ m. nat_eq d.promise m ≡ false) deferred_value ds (IsDistinct-head nat_eq d.promise (map deferred_value ds) apart)
+
+    first : (o : Option Deferred) → found deferred_number n ds ≡ o → option_map deferred_value o ≡ Some v → (d.promise == v) ≡ false
+    first None is told = cc
+    first (Some x) is told =
+        let it : x.promise ≡ v = cc in
+        subst (λ k. (d.promise == k) ≡ false) it (found-All deferred_number (λ y. nat_eq d.promise y.promise ≡ false) n ds x heads is)
+
+    by : (b : Bool) → option_map deferred_value (cond b (Some d) (found deferred_number n ds)) ≡ Some v
+        → (option_map deferred_value (found deferred_number n ds) ≡ Some v → All P (of_other_numbers n ds))
+        → All P (cond (not b) (d ∷ of_other_numbers n ds) (of_other_numbers n ds))
+    by true told later =
+        let it : d.promise ≡ v = cc in
+        All-filter (λ x. not (x.number == n)) P ds
+        (All-weaker (λ x. nat_eq d.promise x.promise ≡ false) P (λ x other. turned x.promise v ∙ subst (λ k. (k == x.promise) ≡ false) it other) ds heads)
+    by false told later = All-cons P d (of_other_numbers n ds) (first (found deferred_number n ds) refl told) (later told)
+
+-- THE MAPS
+pub none-promised : (vs : List Value) → ArePromisesOf vs no_promises
+none-promised vs = record {
+  rows = record {
+    promises = tt;
+    deferreds = tt;
+    numbers = tt;
+    issued = All-nil (λ (d : Deferred). has_number d.number [] ≡ true);
+    pending = All-nil (IsPendingAmong []);
+    apart = distinct-from [] (λ m. omega arith);
+  };
+  live = All-nil (λ (r : Promise). IsLiveAmong vs r.value);
+  deferred = All-nil (λ (d : Deferred). IsLiveAmong vs d.promise);
+}
+
+-- more values are live
+pub wider-promised : (vs ws : List Value) (p : Promises) → ((n : ℕ) → IsLiveAmong vs n → IsLiveAmong ws n) → ArePromisesOf vs p → ArePromisesOf ws p
+wider-promised vs ws p live h = record {
+  rows = h.rows;
+  live = All-weaker (λ (r : Promise). IsLiveAmong vs r.value) (λ r. IsLiveAmong ws r.value) (λ r. live r.value) p.promises h.live;
+  deferred = All-weaker (λ (d : Deferred). IsLiveAmong vs d.promise) (λ d. IsLiveAmong ws d.promise) (λ d. live d.promise) p.deferreds h.deferred;
+}
+
+-- a live value becomes a promise
+more-map : (v n : ℕ) (p : Promises) → IsPromiseMap p → IsPromiseMap (with_promise v n p)
+more-map v n p h =
+    let test : Deferred → Bool = λ d. not (d.promise == v) in
+    let x : Deferred = record { number = n; promise = v } in
+    let rs : List Promise = with_record promised_value (pending_promise v) p.promises in
+    let P : Deferred → Type 0 = λ d. has_number d.number p.issued ≡ true in
+    let Q : Deferred → Type 0 = λ d. has_number d.number (with_number n p.issued) ≡ true in
+    let wider : All Q p.deferreds =
+    All-weaker P Q (λ d there. has-with_number d.number n p.issued ∙ or_right (n == d.number) (has_number d.number p.issued) there) p.deferreds h.issued in
+    let before : All (IsPendingAmong p.promises) (of_others v p.deferreds) = All-filter test (IsPendingAmong p.promises) p.deferreds h.pending in
+    let other : All (λ d. test d ≡ true) (of_others v p.deferreds) = filter_passes test p.deferreds in
+    let still : All (IsPendingAmong rs) (of_others v p.deferreds) =
+    λ k d below. old-state v _ p.promises (passes-not _ (other k d below)) ∙ before k d below in
+    record {
+      promises = rising-with_record promised_value (pending_promise v) p.promises h.promises;
+      deferreds = rising-with_record deferred_number x (of_others v p.deferreds) (rising-filter deferred_number test p.deferreds h.deferreds);
+      numbers = rising-with_record (λ k. k) n p.issued h.numbers;
+      issued = All-with_record deferred_number x Q (of_others v p.deferreds)
+          (has-with_number n n p.issued ∙ or_left (n == n) (has_number n p.issued) (same-self n)) (All-filter test Q p.deferreds wider);
+      pending = All-with_record deferred_number x (IsPendingAmong rs) (of_others v p.deferreds) (new-state v p.promises) still;
+      apart = apart-more v n p.deferreds h.apart;
+    }
+
+pub more-promised : (v n : ℕ) (vs : List Value) (p : Promises) → IsLiveAmong vs v → ArePromisesOf vs p → ArePromisesOf vs (with_promise v n p)
+more-promised v n vs p live h = record {
+  rows = more-map v n p h.rows;
+  live = All-with_record promised_value (pending_promise v) (λ r. IsLiveAmong vs r.value) p.promises live h.live;
+  deferred = All-with_record deferred_number (record { number = n; promise = v }) (λ d. IsLiveAmong vs d.promise) (of_others v p.deferreds) live
+      (All-filter (λ d. not (d.promise == v)) (λ d. IsLiveAmong vs d.promise) p.deferreds h.deferred);
+}
+
+-- a deferred is settled
+settled-map : (n v state : ℕ) (p : Promises) → deferred_promise p n ≡ Some v → IsPromiseMap p → IsPromiseMap (with_settled n v state p)
+settled-map n v state p is h =
+    let test : Deferred → Bool = λ d. not (d.number == n) in
+    let rs : List Promise = map (settled_promise v state) p.promises in
+    let other : All (λ d. (d.promise == v) ≡ false) (of_other_numbers n p.deferreds) = others-apart n v p.deferreds h.apart is in
+    let before : All (IsPendingAmong p.promises) (of_other_numbers n p.deferreds) = All-filter test (IsPendingAmong p.promises) p.deferreds h.pending in
+    record {
+      promises = rising-changed promised_value (settled_promise v state) (kept-value v state) p.promises h.promises;
+      deferreds = rising-filter deferred_number test p.deferreds h.deferreds;
+      numbers = h.numbers;
+      issued = All-filter test (λ d. has_number d.number p.issued ≡ true) p.deferreds h.issued;
+      pending = λ k d below. other-state v state _ p.promises (other k d below) ∙ before k d below;
+      apart = apart-fewer test p.deferreds h.apart;
+    }
+
+pub settled-promised : (n v state : ℕ) (vs : List Value) (p : Promises) → deferred_promise p n ≡ Some v → ArePromisesOf vs p
+    → ArePromisesOf vs (with_settled n v state p)
+settled-promised n v state vs p is h =
+    let P : Promise → Type 0 = λ r. IsLiveAmong vs r.value in
+    record {
+      rows = settled-map n v state p is h.rows;
+      live = All-map P (settled_promise v state) p.promises (λ k d below. rw (kept-value v state (slice_index_or p.promises k d)) (h.live k d below));
+      deferred = All-filter (λ d. not (d.number == n)) (λ d. IsLiveAmong vs d.promise) p.deferreds h.deferred;
+    }
+
+-- values are collected
+left-map : (gone : ℕ → Bool) (p : Promises) → IsPromiseMap p → IsPromiseMap (promises_left gone p)
+left-map gone p h =
+    let test : Deferred → Bool = λ d. not (gone d.promise) in
+    let before : All (IsPendingAmong p.promises) (filter test p.deferreds) = All-filter test (IsPendingAmong p.promises) p.deferreds h.pending in
+    let stays : All (λ d. test d ≡ true) (filter test p.deferreds) = filter_passes test p.deferreds in
+    record {
+      promises = rising-filter promised_value (λ r. not (gone r.value)) p.promises h.promises;
+      deferreds = rising-filter deferred_number test p.deferreds h.deferreds;
+      numbers = h.numbers;
+      issued = All-filter test (λ d. has_number d.number p.issued ≡ true) p.deferreds h.issued;
+      pending = λ k d below. left-state (slice_index_or (filter test p.deferreds) k d).promise (stays k d below) ∙ before k d below;
+      apart = apart-fewer test p.deferreds h.apart;
+    }
+  where
+    left-state : (m : ℕ) → not (gone m) ≡ true → state_among (filter (λ r. not (gone r.value)) p.promises) m ≡ state_among p.promises m
+    left-state m stays =
+        ap (option_map (λ (r : Promise). r.state))
+        (found-filter promised_value (λ k. not (gone k)) m p.promises ∙ ap (λ b. cond b (found promised_value m p.promises) None) stays)
+
+pub left-promised : (e : Environment) → ArePromisesOf e.heap.values e.promises → ArePromisesOf (kept e) (promises_left (is_freed (reach e)) e.promises)
+left-promised e h = record {
+  rows = left-map (is_freed (reach e)) e.promises h.rows;
+  live = λ k d below.
+      live-reached e _ (passes-stay _ (filter_passes (λ (r : Promise). not (is_freed (reach e) r.value)) e.promises.promises k d below));
+  deferred = λ k d below.
+      live-reached e _ (passes-stay _ (filter_passes (λ (x : Deferred). not (is_freed (reach e) x.promise)) e.promises.deferreds k d below));
+}
