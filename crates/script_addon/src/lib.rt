@@ -93,12 +93,15 @@ impl Addon for ScriptAddon {
         let Some(operation) = self.operation(entry, step) else {
             return;
         };
-        let Some(register) = operation.result_register() else {
+        let Some((register, second)) = operation.result_registers() else {
             return;
         };
-        let Some(number) = reply.out.register_value() else {
+        let Some((number, other)) = reply.out.register_values() else {
             return;
         };
         keep(&mut self.registers, register, number);
+        if let (Some(register), Some(number)) = (second, other) {
+            keep(&mut self.registers, register, number);
+        }
     }
 }

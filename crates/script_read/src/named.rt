@@ -71,6 +71,17 @@ fn of_eight(name: &str) -> Option<Op>
     }
 }
 
+/// The kind of a name of ten letters.
+fn of_ten(name: &str) -> Option<Op>
+    ensures { result ≡ named name.now (operations_of_length 10) }
+{
+    match name {
+        _ if is(name, "get_global") => Some(Op::GetGlobal(0)),
+        _ if is(name, "is_promise") => Some(Op::IsPromise(0, 0)),
+        _ => None,
+    }
+}
+
 /// The kind of a name of eleven letters.
 fn of_eleven(name: &str) -> Option<Op>
     ensures { result ≡ named name.now (operations_of_length 11) }
@@ -124,11 +135,23 @@ fn of_thirteen(name: &str) -> Option<Op>
     }
 }
 
+/// The kind of a name of fourteen letters.
+fn of_fourteen(name: &str) -> Option<Op>
+    ensures { result ≡ named name.now (operations_of_length 14) }
+{
+    match name {
+        _ if is(name, "create_promise") => Some(Op::CreatePromise(0, 0)),
+        _ if is(name, "get_value_bool") => Some(Op::GetValueBool(0, 0)),
+        _ => None,
+    }
+}
+
 /// The kind of a name of fifteen letters.
 fn of_fifteen(name: &str) -> Option<Op>
     ensures { result ≡ named name.now (operations_of_length 15) }
 {
     match name {
+        _ if is(name, "reject_deferred") => Some(Op::RejectDeferred(0, 0)),
         _ if is(name, "get_value_int64") => Some(Op::GetValueInt64(0, 0)),
         _ if is(name, "reference_unref") => Some(Op::ReferenceUnref(0, 0)),
         _ if is(name, "create_function") => Some(Op::CreateFunction(0, 0, 0)),
@@ -145,6 +168,7 @@ fn of_sixteen(name: &str) -> Option<Op>
 {
     match name {
         _ if is(name, "delete_reference") => Some(Op::DeleteReference(0)),
+        _ if is(name, "resolve_deferred") => Some(Op::ResolveDeferred(0, 0)),
         _ if is(name, "queue_async_work") => Some(Op::QueueAsyncWork(0)),
         _ if is(name, "get_array_length") => Some(Op::GetArrayLength(0, 0)),
         _ if is(name, "create_reference") => Some(Op::CreateReference(0, 0, 0)),
@@ -286,11 +310,11 @@ fn of_length(name: &str, length: usize) -> Option<Op>
         6 => of_six(name),
         7 => if_named(name, "collect", Op::Collect(0)),
         8 => of_eight(name),
-        10 => if_named(name, "get_global", Op::GetGlobal(0)),
+        10 => of_ten(name),
         11 => of_eleven(name),
         12 => of_twelve(name),
         13 => of_thirteen(name),
-        14 => if_named(name, "get_value_bool", Op::GetValueBool(0, 0)),
+        14 => of_fourteen(name),
         15 => of_fifteen(name),
         16 => of_sixteen(name),
         17 => of_seventeen(name),

@@ -213,6 +213,7 @@ fn add_out<K: Sink>(sink: &mut K, pending: &mut Pending, texts: &Texts, out: Out
         Out::Scope(_) => add_word(sink, pending, b"scope"),
         Out::Ref(_) => add_word(sink, pending, b"ref"),
         Out::AsyncHook(_) => add_word(sink, pending, b"hook"),
+        Out::Promise(..) => add_word(sink, pending, b"promise"),
         Out::Work(_) => add_word(sink, pending, b"work"),
         Out::Function(function) => add_duty(sink, pending, Duty::Function(function)),
         Out::Signed(n) => add_signed(sink, pending, n),

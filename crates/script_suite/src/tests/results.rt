@@ -1,20 +1,21 @@
 //! The text of each result of a call, in lines of one trace.
 use super::traces::{check, collect};
 use napi_types::{
-    AsyncHookId, Cause, Duty, Entry, HandleId, Kind, LoopEnd, Out, RefId, ScopeId, TextNo, Ticket,
-    TsfnId, Why, WorkId,
+    AsyncHookId, Cause, DeferredId, Duty, Entry, HandleId, Kind, LoopEnd, Out, RefId, ScopeId,
+    TextNo, Ticket, TsfnId, Why, WorkId,
 };
 use std::alloc::Global;
 use std::process::Abort;
 
 /// What is issued, numbers and flags, texts, ends and cuts, kinds, duties, and begins of frames, without duties and with.
-const RESULTS: [Out; 50] = [
+const RESULTS: [Out; 51] = [
     Out::Nothing,
     Out::Handle(HandleId(7)),
     Out::NoHandle,
     Out::Scope(ScopeId(7)),
     Out::Ref(RefId(7)),
     Out::AsyncHook(AsyncHookId(7)),
+    Out::Promise(DeferredId(7), HandleId(7)),
     Out::Work(WorkId(7)),
     Out::Function(TsfnId(3)),
     Out::Signed(0),
@@ -68,50 +69,51 @@ const LINES: &str = r#"1 env collect 0 -
 4 env collect 0 scope
 5 env collect 0 ref
 6 env collect 0 hook
-7 env collect 0 work
-8 env collect 0 f3
-9 env collect 0 0
-10 env collect 0 -5
-11 env collect 0 -9223372036854775808
-12 env collect 0 10
-13 env collect 0 18446744073709551615
-14 env collect 0 true
-15 env collect 0 false
-16 env collect 0 "stack depth"
-17 env collect 0 "\"\\\u000a\u001faé"
-18 env collect 0 ""
-19 env collect 0 uncaught
-20 env collect 0 exit
-21 env collect 0 idle
-22 env collect 0 quiet
-23 env collect 0 cut:memory
-24 env collect 0 cut:full
-25 env collect 0 cut:asks
-26 env collect 0 undefined
-27 env collect 0 null
-28 env collect 0 boolean
-29 env collect 0 number
-30 env collect 0 string
-31 env collect 0 symbol
-32 env collect 0 object
-33 env collect 0 function
-34 env collect 0 external
-35 env collect 0 bigint
-36 env collect 0 #4
-37 env collect 0 j4
-38 env collect 0 f2.7
-39 env collect 0 f2
-40 env collect 0 init:1.20
-41 env collect 0 call:1.20
-42 env collect 0 finalize:1.20
-43 env collect 0 complete:1.20
-44 env collect 0 item:1.20
-45 env collect 0 torn:1.20
-46 env collect 0 hook:1.20
-47 env collect 0 hook:3.12:#4
-48 env collect 0 hook:3.12:j4
-49 env collect 0 hook:3.12:f2.7
-50 env collect 0 hook:3.12:f2
+7 env collect 0 promise
+8 env collect 0 work
+9 env collect 0 f3
+10 env collect 0 0
+11 env collect 0 -5
+12 env collect 0 -9223372036854775808
+13 env collect 0 10
+14 env collect 0 18446744073709551615
+15 env collect 0 true
+16 env collect 0 false
+17 env collect 0 "stack depth"
+18 env collect 0 "\"\\\u000a\u001faé"
+19 env collect 0 ""
+20 env collect 0 uncaught
+21 env collect 0 exit
+22 env collect 0 idle
+23 env collect 0 quiet
+24 env collect 0 cut:memory
+25 env collect 0 cut:full
+26 env collect 0 cut:asks
+27 env collect 0 undefined
+28 env collect 0 null
+29 env collect 0 boolean
+30 env collect 0 number
+31 env collect 0 string
+32 env collect 0 symbol
+33 env collect 0 object
+34 env collect 0 function
+35 env collect 0 external
+36 env collect 0 bigint
+37 env collect 0 #4
+38 env collect 0 j4
+39 env collect 0 f2.7
+40 env collect 0 f2
+41 env collect 0 init:1.20
+42 env collect 0 call:1.20
+43 env collect 0 finalize:1.20
+44 env collect 0 complete:1.20
+45 env collect 0 item:1.20
+46 env collect 0 torn:1.20
+47 env collect 0 hook:1.20
+48 env collect 0 hook:3.12:#4
+49 env collect 0 hook:3.12:j4
+50 env collect 0 hook:3.12:f2.7
+51 env collect 0 hook:3.12:f2
 "#;
 
 /// Calls of `collect` with these results.
