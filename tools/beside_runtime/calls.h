@@ -215,8 +215,8 @@ static void next(frame *f, int keeps) {
   f->keeps = keeps;
   if (TURN_COUNT) around(before, f->key, place(f));
 }
-/* What the operation's register keeps here: 'h' a handle, 'r' a reference, 'n' another number, '-' nothing; 0 where it is not
- * known. And the duty that it makes here: 't' a ticket, 'j' a work that is queued, '-' none of these. */
+/* What the operation's register keeps here: 'h' a handle, 'p' that of a promise, 'r' a reference, 'n' another number, '-' nothing;
+ * 0 where it is not known. And the duty that it makes here: 't' a ticket, 'j' a work that is queued, '-' none of these. */
 static char told_here(const frame *f, const char *list) { return list && (size_t)f->at < strlen(list) ? list[f->at] : 0; }
 static char kind_here(const frame *f) { return told_here(f, f->kinds); }
 /* Whether what the runtime gave is kept: where the call gives nothing here it is let go, so that both go on from the same
@@ -515,6 +515,7 @@ static void type_of(frame *f, int r, int w) {
   }
 TESTER(is_array)
 TESTER(is_error)
+TESTER(is_promise)
 TESTER(get_value_bool)
 static void get_value_int64(frame *f, int r, int w) {
   const char *name = "get_value_int64";
@@ -755,7 +756,7 @@ static u64 issue_ref(napi_ref ref) {
 /* A call that gave something here gave nothing there: its register has what no call can be made with. */
 static void fill(frame *f) {
   char kind = kind_here(f), duty = told_here(f, f->duties);
-  u64 n = kind == 'h' ? issue(NULL) : kind == 'r' ? issue_ref(UNGIVEN) : NOT_KNOWN;
+  u64 n = kind == 'h' || kind == 'p' ? issue(NULL) : kind == 'r' ? issue_ref(UNGIVEN) : NOT_KNOWN;
   if (f->keeps >= 0 && kind && kind != '-') f->regs[f->keeps] = n;
   TICKET += duty == 't';
   QUEUED += duty == 'j';
@@ -1102,6 +1103,47 @@ static void remove_async_cleanup_hook(frame *f, int r) {
   }
   answer(f, name, h ? remove_async(h) : napi_remove_async_cleanup_hook(NULL), "-");
 }
+
+/* Promises. A deferred is freed as it is settled, and NULL is none: what in C has no deferred is not made. */
+typedef struct {
+  napi_deferred deferred;
+  bool settled;
+} deferred;
+static deferred *DEFERREDS;
+static u64 DEFERRED_COUNT;
+static void create_promise(frame *f, int d, int w) {
+  napi_deferred given = NULL;
+  napi_value v = NULL;
+  napi_status s = napi_create_promise(f->env, &given, &v);
+  if (is_kept(f, s)) {
+    ROOM_IN(DEFERREDS, DEFERRED_COUNT);
+    DEFERREDS[++DEFERRED_COUNT] = (deferred){given, false};
+    f->regs[d] = DEFERRED_COUNT;
+    f->regs[w] = issue(v);
+  } else if (kind_here(f) == 'p') f->regs[d] = NOT_KNOWN;
+  answer(f, "create_promise", s, "promise");
+}
+static void settle(frame *f, const char *name, int r, int h, napi_status with(napi_env, napi_deferred, napi_value)) {
+  u64 n = f->regs[r];
+  VALUE(v, h);
+  if (n == NOT_KNOWN) {
+    not_made(f, name, "the runtime gave none");
+    return;
+  }
+  if (n == 0 || n > DEFERRED_COUNT) {
+    not_made(f, name, "there is no such deferred");
+    return;
+  }
+  if (DEFERREDS[n].settled) {
+    not_made(f, name, "the deferred was settled");
+    return;
+  }
+  napi_status s = with(f->env, DEFERREDS[n].deferred, v);
+  if (s == napi_ok || s == napi_generic_failure) DEFERREDS[n].settled = true;
+  answer(f, name, s, "-");
+}
+static void resolve_deferred(frame *f, int r, int h) { settle(f, "resolve_deferred", r, h, napi_resolve_deferred); }
+static void reject_deferred(frame *f, int r, int h) { settle(f, "reject_deferred", r, h, napi_reject_deferred); }
 
 /* Works. */
 static void execute(napi_env env, void *data) {

@@ -167,7 +167,7 @@ def answers_of(trace):
         for at, (_name, answer) in enumerate(frame.calls):
             inner = trace.frames.get(f"{key}/{at}") if answer == "begins" else None
             answer = (inner.end or "") if inner else answer
-            kinds += "-" if not answer.startswith("0 ") else {"handle": "h", "ref": "r"}.get(answer[2:], "n")
+            kinds += "-" if not answer.startswith("0 ") else {"handle": "h", "promise": "p", "ref": "r"}.get(answer[2:], "n")
             duties += {"#": "t", "j": "j"}.get(trace.made.get((key, at), "-")[0], "-")
         yield key, kinds, duties
 

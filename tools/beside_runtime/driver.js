@@ -12,6 +12,8 @@ function collector() {
 }
 function start() {
   collector();
+  // A promise that is rejected has no handler here, and without this line the process would end with an error.
+  process.on('unhandledRejection', () => {});
   process.on('uncaughtException', (e) => console.log('env note uncaught ' + String(e).split('\n')[0]));
   let last;
   for (let i = 0; i < Math.max(1, +count); i++) {

@@ -1,4 +1,4 @@
-/* Fifteen wrong runtimes: WRONG is the number of one. Each is a call that answers wrongly, and a comparison has to notice it:
+/* Sixteen wrong runtimes: WRONG is the number of one. Each is a call that answers wrongly, and a comparison has to notice it:
  * tools/beside --cc "cc -DWRONG=1" --rows */
 #if WRONG == 1
 static napi_status wrong(napi_env e, napi_value a, napi_value b, bool *r) {
@@ -93,4 +93,11 @@ static napi_status wrong(napi_env e, napi_async_work w) {
 #elif WRONG == 15
 static napi_status wrong(napi_async_cleanup_hook_handle h) { return h ? napi_remove_async_cleanup_hook(h) : napi_ok; }
 #define napi_remove_async_cleanup_hook wrong
+#elif WRONG == 16
+static napi_status wrong(napi_env e, napi_value v, bool *r) {
+  napi_status s = napi_is_promise(e, v, r);
+  *r = true;
+  return s;
+}
+#define napi_is_promise wrong
 #endif
