@@ -133,6 +133,9 @@ pub enum Call {
     ResolveDeferred(DeferredId, HandleId),
     RejectDeferred(DeferredId, HandleId),
     IsPromise(HandleId),
+    /// The promise, the reaction's entry and its payload. This call and the next are this project's own.
+    AddReaction(HandleId, u32, u64),
+    GetReactionValue,
 
     // Asynchronous works.
     /// The job, the completion's entry and the payload.
@@ -297,6 +300,8 @@ impl Call {
             Call::CreatePromise | Call::ResolveDeferred(..) | Call::RejectDeferred(..) => {
                 (CallGroup::OnPromises, true, false, 1)
             }
+            Call::AddReaction(..) => (CallGroup::OnPromises, true, true, 3),
+            Call::GetReactionValue => (CallGroup::OnPromises, false, false, 1),
             Call::CreateAsyncWork(..) => (CallGroup::OnWorks, false, true, 1),
             Call::DeleteAsyncWork(_) | Call::CancelAsyncWork(_) => {
                 (CallGroup::OnWorks, false, false, 1)

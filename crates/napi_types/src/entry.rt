@@ -39,6 +39,7 @@ pub enum Cause {
     Item,
     Torn,
     Hook,
+    Reaction,
 }
 
 /// An event that is no call.

@@ -205,6 +205,12 @@ impl Op {
                 handle_at(regs, value),
             ),
             Op::IsPromise(value, _) => Call::IsPromise(handle_at(regs, value)),
+            Op::AddReaction(promise, entry, payload) => Call::AddReaction(
+                handle_at(regs, promise),
+                entry,
+                payload,
+            ),
+            Op::GetReactionValue(_) => Call::GetReactionValue,
             Op::CreateAsyncWork(job, entry, payload, _) => Call::CreateAsyncWork(
                 job, entry, payload,
             ),
@@ -312,6 +318,7 @@ impl Op {
             | Op::GetThreadsafeFunctionContext(_, result)
             | Op::GetVersion(result)
             | Op::IsPromise(_, result)
+            | Op::GetReactionValue(result)
             | Op::Collect(result) => Some((result, None)),
             Op::Wrap(_, _, _, _, result) | Op::AddFinalizer(_, _, _, _, result) => {
                 Some((result?, None))
@@ -327,9 +334,10 @@ impl Op {
             | Op::SetInstanceData(..)
             | Op::AddEnvCleanupHook(..)
             | Op::RemoveEnvCleanupHook(..)
-            | Op::RemoveAsyncCleanupHook(_)
-            | Op::ResolveDeferred(..)
+            | Op::RemoveAsyncCleanupHook(_) => None,
+            Op::ResolveDeferred(..)
             | Op::RejectDeferred(..)
+            | Op::AddReaction(..)
             | Op::DeleteAsyncWork(_)
             | Op::CancelAsyncWork(_)
             | Op::QueueAsyncWork(_)

@@ -37,7 +37,7 @@ pub struct WorkId(pub u64);
 #[derive(Clone, Copy, Debug, PartialEq, Eq)]
 pub struct TsfnId(pub u64);
 
-/// A finalizer or a hook that was registered. Tickets count from 1.
+/// A finalizer, a hook or a reaction that was registered. Tickets count from 1.
 #[derive(Clone, Copy, Debug, PartialEq, Eq)]
 pub struct Ticket(pub u64);
 

@@ -73,6 +73,8 @@ impl Call {
             Call::ResolveDeferred(..) => "resolve_deferred",
             Call::RejectDeferred(..) => "reject_deferred",
             Call::IsPromise(_) => "is_promise",
+            Call::AddReaction(..) => "add_reaction",
+            Call::GetReactionValue => "get_reaction_value",
             Call::CreateAsyncWork(..) => "create_async_work",
             Call::DeleteAsyncWork(_) => "delete_async_work",
             Call::CancelAsyncWork(_) => "cancel_async_work",
@@ -160,6 +162,7 @@ impl Cause {
             Cause::Item => "item",
             Cause::Torn => "torn",
             Cause::Hook => "hook",
+            Cause::Reaction => "reaction",
         }
     }
 }

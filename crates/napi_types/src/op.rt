@@ -79,6 +79,8 @@ pub enum Op {
     ResolveDeferred(u8, u8),
     RejectDeferred(u8, u8),
     IsPromise(u8, u8),
+    AddReaction(u8, u32, u64),
+    GetReactionValue(u8),
     CreateAsyncWork(JobSpec, u32, u64, u8),
     DeleteAsyncWork(u8),
     CancelAsyncWork(u8),

@@ -74,6 +74,7 @@ fn with_register(kind: Op, x: u8) -> Option<Op>
         Op::DeleteReference(..) => Some(Op::DeleteReference(x)),
         Op::Throw(..) => Some(Op::Throw(x)),
         Op::RemoveAsyncCleanupHook(..) => Some(Op::RemoveAsyncCleanupHook(x)),
+        Op::GetReactionValue(..) => Some(Op::GetReactionValue(x)),
         Op::DeleteAsyncWork(..) => Some(Op::DeleteAsyncWork(x)),
         Op::CancelAsyncWork(..) => Some(Op::CancelAsyncWork(x)),
         Op::QueueAsyncWork(..) => Some(Op::QueueAsyncWork(x)),
@@ -196,6 +197,12 @@ fn with_three_arguments(entries: u32, kind: Op, a: &Value, b: &Value, c: &Value)
             entry_number(entries, a),
             whole(b),
             register(c)
+        ),
+        Op::AddReaction(..) => from!(
+            Op::AddReaction,
+            register(a),
+            entry_number(entries, b),
+            whole(c)
         ),
         Op::CallThreadsafeFunction(..) => from!(
             Op::CallThreadsafeFunction,

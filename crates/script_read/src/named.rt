@@ -106,6 +106,7 @@ fn of_twelve(name: &str) -> Option<Op>
         _ if is(name, "create_array") => Some(Op::CreateArray(0)),
         _ if is(name, "create_int64") => Some(Op::CreateInt64(0, 0)),
         _ if is(name, "create_error") => Some(Op::CreateError(None, 0, 0)),
+        _ if is(name, "add_reaction") => Some(Op::AddReaction(0, 0, 0)),
         _ => None,
     }
 }
@@ -198,6 +199,7 @@ fn of_eighteen(name: &str) -> Option<Op>
     match name {
         _ if is(name, "close_handle_scope") => Some(Op::CloseHandleScope(0)),
         _ if is(name, "get_value_external") => Some(Op::GetValueExternal(0, 0)),
+        _ if is(name, "get_reaction_value") => Some(Op::GetReactionValue(0)),
         _ if is(name, "get_property_names") => Some(Op::GetPropertyNames(0, 0)),
         _ if is(name, "create_string_utf8") => Some(Op::CreateStringUtf8(TextNo(0), 0)),
         _ if is(name, "set_named_property") => Some(Op::SetNamedProperty(0, TextNo(0), 0)),

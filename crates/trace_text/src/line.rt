@@ -180,6 +180,7 @@ fn add_cause<K: Sink>(sink: &mut K, pending: &mut Pending, cause: Cause)
         Cause::Item => add_word(sink, pending, b"item:"),
         Cause::Torn => add_word(sink, pending, b"torn:"),
         Cause::Hook => add_word(sink, pending, b"hook:"),
+        Cause::Reaction => add_word(sink, pending, b"reaction:"),
     }
 }
 

@@ -26,7 +26,7 @@ use Rattle.napi_types.specs.runs.Run.{IsNext, after}
 use Rattle.napi_types.specs.runs.Step.{Step, move_step, has_room, step}
 use Rattle.napi_types.specs.all_runs.Laws.{is_ticket}
 use Rattle.napi_types.proofs.plain.Conditions.{and-right}
-use Rattle.napi_types.proofs.parts.BookSteps.{BookStep, stays, adds, drops, collects, swaps}
+use Rattle.napi_types.proofs.parts.BookSteps.{BookStep, stays, adds, drops, collects, settles, swaps}
 use Rattle.napi_types.proofs.environment.Cases.{asked-by}
 use Rattle.napi_types.proofs.environment.FrameEnds.{ended-ends}
 use Rattle.napi_types.proofs.hub.HubDuties.{hub_step-spares}
@@ -63,6 +63,7 @@ book-tickets addon b _ _ _ (stays c e) = record { made = tt; dropped = tt; begun
 book-tickets addon b _ _ _ (adds r c new who why e) = record { made = refl; dropped = tt; begun = tt }
 book-tickets addon b _ _ _ (drops n c is e) = record { made = tt; dropped = refl; begun = tt }
 book-tickets addon b _ _ _ (collects test c e) = record { made = tt; dropped = tt; begun = tt }
+book-tickets addon b _ _ _ (settles state tickets c e) = record { made = tt; dropped = tt; begun = tt }
 book-tickets addon b _ _ _ (swaps n r c is new who why e) = record { made = refl; dropped = refl; begun = tt }
 
 tickets : (b : Book) (made dropped begun : Option Duty) (c : Book) → TicketStep b made dropped begun c → AreTickets made dropped begun

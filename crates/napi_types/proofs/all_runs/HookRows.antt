@@ -42,7 +42,7 @@ use Rattle.napi_types.specs.environment.Entering.{enter_change, asked_change}
 use Rattle.napi_types.specs.environment.Environment.{Environment}
 use Rattle.napi_types.specs.environment.HookCalls.{unhooked}
 use Rattle.napi_types.specs.environment.Hooked.{is_from_finals_on, StandsWhileSet, IsForHook}
-use Rattle.napi_types.specs.environment.PromiseCalls.{settling, resolved, rejected}
+use Rattle.napi_types.specs.environment.PromiseCalls.{settling, resolved, rejected, reaction_value, reaction_told}
 use Rattle.napi_types.specs.environment.ReferenceCalls.{value_told, counted_up}
 use Rattle.napi_types.specs.environment.Refusals.{group_refusal, refusal_by_state, refusal_before_depth, depth_refusal, refusal}
 use Rattle.napi_types.specs.environment.Moments.{refusal_by_moment}
@@ -168,6 +168,10 @@ module _ (e : Environment) where
   settling-rests n v state None = refl
   settling-rests n v state (Some p) = refl
 
+  reading-rests : (v : Option ℕ) → Rests e (reaction_told e v)
+  reading-rests None = refl
+  reading-rests (Some v) = refl
+
 withdrawn-rests : (e : Environment) (t : Option ℕ) (a : Answer Environment) → Rests e a → Rests e (withdrawing t a)
 withdrawn-rests e None a same = same
 withdrawn-rests e (Some n) a same = same
@@ -197,6 +201,7 @@ effect-rests e (call.AddAsyncCleanupHook entry argument) n plain lasting = absur
 effect-rests e (call.RemoveAsyncCleanupHook hook) n plain lasting = absurd (lasting hook refl)
 effect-rests e (call.ResolveDeferred d v) n plain lasting = settling-rests e d.0 (handle_value e.heap v.0) resolved (deferred_promise e.promises d.0)
 effect-rests e (call.RejectDeferred d v) n plain lasting = settling-rests e d.0 (handle_value e.heap v.0) rejected (deferred_promise e.promises d.0)
+effect-rests e call.GetReactionValue n plain lasting = reading-rests e (reaction_value e)
 effect-rests e c n plain lasting = refl
 
 abbrev CallStep : Environment → Call → Answer Environment → Type 0

@@ -26,7 +26,6 @@ use Rattle.napi_types.specs.parts.Kinds.{expects, expects_if}
 use Rattle.napi_types.specs.parts.NamedNumbers.{is_known, unknown_refusal}
 use Rattle.napi_types.specs.parts.PropertyCalls.{property_kinds, property_refusal}
 use Rattle.napi_types.specs.parts.ReferenceRefusals.{references_of, unknown_reference, count_refusal, reference_refusal}
-use Rattle.napi_types.specs.parts.Promises.{Promises}
 use Rattle.napi_types.specs.parts.References.{ReferenceMap, has_reference}
 use Rattle.napi_types.specs.parts.ScopeCalls.{scope_refusal}
 use Rattle.napi_types.specs.parts.ScopeRefusals.{has_scope, is_kind, closing, refuses_escape, escapable_scope}
@@ -165,10 +164,12 @@ by-hook e (call.RemoveEnvCleanupHook entry argument) = by-unless _ status.Invali
 by-hook e (call.RemoveAsyncCleanupHook hook) = by-unless _ status.InvalidArg refl
 by-hook e _ = tt
 
-by-promise : (p : Promises) (c : Call) → Refuses (promise_refusal p c)
-by-promise p (call.ResolveDeferred d v) = by-unless _ status.InvalidArg refl
-by-promise p (call.RejectDeferred d v) = by-unless _ status.InvalidArg refl
-by-promise p _ = tt
+by-promise : (e : Environment) (c : Call) → Refuses (promise_refusal e c)
+by-promise e (call.ResolveDeferred d v) = by-unless _ status.InvalidArg refl
+by-promise e (call.RejectDeferred d v) = by-unless _ status.InvalidArg refl
+by-promise e (call.AddReaction h entry payload) = by-unless _ status.InvalidArg refl
+by-promise e call.GetReactionValue = by-unless _ status.InvalidArg refl
+by-promise e _ = tt
 
 by-count : (m : ReferenceMap) (c : Call) → Refuses (count_refusal m c)
 by-count m (call.ReferenceRef r) = by-when _ status.GenericFailure refl
@@ -187,7 +188,7 @@ by-group : (g : CallGroup) (e : Environment) (c : Call) → Refuses ((call_group
 by-group OnReferences e c = either (referring_refusal e c) (reference_refusal e.references c) (by-referring e c) (by-reference e.references c)
 by-group OnWraps e c = by-attachment e.attachments e.heap c
 by-group OnHooks e c = by-hook e c
-by-group OnPromises e c = by-promise e.promises c
+by-group OnPromises e c = by-promise e c
 by-group _ e c = tt
 
 by-depth : (fs : List Frame) (c : Call) → Refuses (depth_refusal fs c)

@@ -19,9 +19,11 @@ use Rattle.napi_types.specs.declared.entry.Phase.TheVariants as phase
 use Rattle.napi_types.specs.declared.entry.Why.{Why}
 use Rattle.napi_types.specs.declared.ids.HandleId.{HandleId}
 use Rattle.napi_types.specs.plain.Entries.{host_entry, begun_duty}
+use Rattle.napi_types.specs.plain.Lists.{has_number}
 use Rattle.napi_types.specs.plain.Room.{one_if, is_full}
-use Rattle.napi_types.specs.parts.Book.{Book, Registration, TicketState, Registered, is_registered, is_owed, is_at, made_due, made_withdrawn, made_ended, changed_where, moved, moved_at, due_where, registration_at, owed_tickets, ticket_duty, new_ticket, with_registration, begun_in, may_begin_in}
+use Rattle.napi_types.specs.parts.Book.{Book, Registration, TicketState, is_registered, is_owed, is_at, made_due, made_withdrawn, made_ended, changed_where, moved, moved_at, due_where, registration_at, owed_tickets, ticket_duty, new_ticket, with_registration, begun_in, may_begin_in}
 use Rattle.napi_types.specs.parts.Frames.{caller_of, cause_of, duty_of, is_hub_duty}
+use Rattle.napi_types.specs.parts.Promises.{made_settled, reactions_settled}
 use Rattle.napi_types.specs.environment.Changes.{Change, may_call, book_in}
 use Rattle.napi_types.specs.environment.Ends.{duty_ended, end_change}
 use Rattle.napi_types.specs.environment.Entering.{enter_change, asked_change}
@@ -41,8 +43,8 @@ use Rattle.napi_types.specs.all_runs.Counts.{is_duty, made, dropped, begun}
 use Rattle.napi_types.specs.all_runs.Laws.{TicketsAreCounted}
 use Rattle.napi_types.specs.all_runs.Order.{made_ticket, tickets_made}
 use Rattle.napi_types.proofs.plain.Conditions.{and-right}
-use Rattle.napi_types.proofs.parts.BookSteps.{BookStep, stays, adds, drops, collects, swaps}
-use Rattle.napi_types.proofs.parts.Books.{owed-cons, Leaves, withdrawn-leaves, leaves-in, due-keeps, ended-keeps, length-changed_where}
+use Rattle.napi_types.proofs.parts.BookSteps.{BookStep, stays, adds, drops, collects, settles, swaps}
+use Rattle.napi_types.proofs.parts.Books.{owed-cons, Leaves, withdrawn-leaves, leaves-in, due-keeps, ended-keeps, settled-keeps, length-changed_where}
 use Rattle.napi_types.proofs.parts.Moved.{registration_at-changed_where, registration_at-new, registration_at-old}
 use Rattle.napi_types.proofs.environment.AnswersKeep.{call_change-keeps}
 use Rattle.napi_types.proofs.environment.FrameChanges.{book_left, ended-keeps as end_change-keeps, left-parts, enter_change-keeps, registry-parts}
@@ -221,7 +223,7 @@ not-given b = ap (registration_at b) (next (length b)) ∙ slice_get_past b (len
     next : (n : ℕ) → n + 1 ≡ suc n
     next n = omega arith
 
-account-added : (t : ℕ) (b : Book) (r : Registration) → r.state ≡ Registered → Account t b (Some (ticket_duty (new_ticket b))) None None (with_registration r b)
+account-added : (t : ℕ) (b : Book) (r : Registration) → is_owed r.state ≡ true → Account t b (Some (ticket_duty (new_ticket b))) None None (with_registration r b)
 account-added t b r new = by (t == new_ticket b) refl
   where
     given : (o q : Option Registration) (k : ℕ) → o ≡ q → as_one (is_some o) + k ≡ as_one (is_some q) + k
@@ -284,6 +286,10 @@ book-account t addon b _ _ _ (drops n c is e) = same-account t b None _ None (mo
 book-account t addon b _ _ _ (collects test c e) =
     same-account t b None None None (due_where test b) c e
     (kept-account t b (due_where test b) (given-changed (moved made_due) test t b) (owed-kept (moved made_due) (λ r. due-keeps r.state) test t b))
+book-account t addon b _ _ _ (settles state tickets c e) =
+    same-account t b None None None (reactions_settled state tickets b) c e
+    (kept-account t b (reactions_settled state tickets b) (given-changed (made_settled state) (λ n. has_number n tickets) t b)
+    (owed-kept (made_settled state) (settled-keeps state) (λ n. has_number n tickets) t b))
 book-account t addon b _ _ _ (swaps n r c is new who why e) =
     let left : Book = moved_at made_withdrawn n b in
     same-account t b _ _ None (with_registration r left) c e
@@ -393,6 +399,8 @@ book-makes addon b _ _ _ (stays c e) = unmade None c refl (ap length e)
 book-makes addon b _ _ _ (adds r c new who why e) = making c (ap length e ∙ length-append b (r ∷ []))
 book-makes addon b _ _ _ (drops n c is e) = unmade None c refl (ap length e ∙ length-changed_where (moved made_withdrawn) (λ m. m == n) b)
 book-makes addon b _ _ _ (collects test c e) = unmade None c refl (ap length e ∙ length-changed_where (moved made_due) test b)
+book-makes addon b _ _ _ (settles state tickets c e) =
+    unmade None c refl (ap length e ∙ length-changed_where (made_settled state) (λ n. has_number n tickets) b)
 book-makes addon b _ _ _ (swaps n r c is new who why e) =
     let left : Book = moved_at made_withdrawn n b in
     let same : length left ≡ length b = length-changed_where (moved made_withdrawn) (λ m. m == n) b in

@@ -1,5 +1,5 @@
 -- What every call of the environment keeps, and by how much it may grow.
-use Rattle.std.proofs.Common.{◌≡◌, ◌≤◌, ℕ, ◌+◌, ◌*◌, nat_lt, Bool, true, false, not, cond, List, [], ◌∷◌, length, refl, sym, ap, ◌∙◌, Option, Some, None, is_some, arith}
+use Rattle.std.proofs.Common.{◌≡◌, ◌≤◌, ℕ, zero, suc, ◌+◌, ◌*◌, nat_lt, Bool, true, false, not, cond, List, [], ◌∷◌, length, refl, sym, ap, ◌∙◌, Option, Some, None, is_some, arith}
 use Rattle.std.proofs.lemmas.List.{length-map}
 use Rattle.std.specs.Option.{option_or}
 use Rattle.napi_types.specs.declared.call.Call.{Call}
@@ -15,7 +15,7 @@ use Rattle.napi_types.specs.plain.Guards.{is_registering}
 use Rattle.napi_types.specs.plain.Replies.{Answer, accepts}
 use Rattle.napi_types.specs.plain.Room.{one_if, need}
 use Rattle.napi_types.specs.parts.AsyncHooks.{AsyncHook, set_ticket, with_removed}
-use Rattle.napi_types.specs.parts.Book.{Book, owed_tickets}
+use Rattle.napi_types.specs.parts.Book.{Book, is_owed, owed_tickets}
 use Rattle.napi_types.specs.parts.Frames.{Frame, caller_of, ask_counted, is_hub_duty, local_frames}
 use Rattle.napi_types.specs.parts.Heap.{Heap, handle_properties}
 use Rattle.napi_types.specs.parts.HeapCalls.{heap_effect, addon_effect, heap_answer_unless, heap_answer}
@@ -23,6 +23,7 @@ use Rattle.napi_types.specs.parts.HeapChanges.{with_handle, with_thrown}
 use Rattle.napi_types.specs.parts.HeapRefusals.{refusal_in, kind_refusal, row_refusal}
 use Rattle.napi_types.specs.parts.Hooks.{hook_ticket, Hook}
 use Rattle.napi_types.specs.parts.NamedNumbers.{unknown_refusal}
+use Rattle.napi_types.specs.parts.Promises.{state_of}
 use Rattle.napi_types.specs.parts.PropertyCalls.{names_of}
 use Rattle.napi_types.specs.parts.References.{ReferenceMap}
 use Rattle.napi_types.specs.environment.Calls.{effect, answer}
@@ -32,11 +33,12 @@ use Rattle.napi_types.specs.environment.HookCalls.{unhooked}
 use Rattle.napi_types.specs.environment.JournalRoom.{reserved_journal}
 use Rattle.napi_types.specs.environment.Moments.{is_tearing, guard_refusal, registering_refusal, refusal_by_moment}
 use Rattle.napi_types.specs.environment.Refusals.{refusal_by_state, refusal_before_depth, group_refusal}
+use Rattle.napi_types.specs.environment.PromiseCalls.{reaction_state}
 use Rattle.napi_types.specs.environment.Registering.{withdrawing}
 use Rattle.napi_types.proofs.plain.Maps.{length-with_record}
 use Rattle.napi_types.proofs.plain.Lists.{length-changed, not-when, none-first, none-last}
 use Rattle.napi_types.proofs.plain.CallFacts.{needs-place}
-use Rattle.napi_types.proofs.parts.BookSteps.{BookStep, stays, adds, drops, collects, step-owed}
+use Rattle.napi_types.proofs.parts.BookSteps.{BookStep, stays, adds, drops, collects, settles, step-owed}
 use Rattle.napi_types.proofs.environment.Cases.{answer-by}
 use Rattle.napi_types.proofs.environment.Effects as does
 use Rattle.napi_types.proofs.environment.Effects.{Effect, registered-by, effect-of}
@@ -172,6 +174,11 @@ thrown-keeps : (heap : Heap) (code : Option TextNo) (message : TextNo) → HeapK
 thrown-keeps heap None message = in-scopes-made heap _ refl (omega arith) (omega arith) (omega arith)
 thrown-keeps heap (Some code) message = in-scopes-made heap _ refl (omega arith) (omega arith) (omega arith)
 
+-- a reaction is registered, or due at once
+reaction-owed : (state : ℕ) → is_owed (reaction_state state) ≡ true
+reaction-owed zero = refl
+reaction-owed (suc n) = refl
+
 does-keeps : (c : Call) (e : Environment) {made dropped : Option Duty} (d : Environment) → refusal_in e.texts e.heap c ≡ None → Effect c e made dropped d
     → KeepsBy e made dropped d
 does-keeps c e _ none does.rests = keeps-book e e.book e.hooks e.async_hooks (stays e.book refl)
@@ -200,8 +207,17 @@ does-keeps c e _ none (does.settles n h state p is) = record {
   heap = in-scopes e.heap _ refl (omega arith) (omega arith) refl;
   references = omega arith;
   deferreds = omega arith;
-  book = stays e.book refl;
+  book = settles state _ _ refl;
 }
+does-keeps c e _ none (does.reacts v entry payload) = record {
+  course = refl;
+  frames = refl;
+  heap = same e.heap;
+  references = omega arith;
+  deferreds = omega arith;
+  book = adds _ _ (reaction-owed (state_of e.promises v)) refl (λ h. cc) refl;
+}
+does-keeps c e _ none (does.reads v is) = keeps-parts e _ _ _ (handled e.heap e.heap _ refl refl refl (omega arith)) (omega arith)
 does-keeps c e _ none (does.adds_hook entry argument) = keeps-book e _ _ _ (adds _ _ refl refl (λ h. cc) refl)
 does-keeps c e _ none (does.removes_hook entry argument) =
     let o : Option ℕ = hook_ticket (caller_of e.frames) entry argument e.hooks in

@@ -93,7 +93,9 @@ does-changed c e _ does.collects =
     (book (record e { heap = _; references = _; attachments = _ }) _
     (attachments (record e { heap = _; references = _ }) _ (references (record e { heap = _ }) _ (heap e _ stays))))
 does-changed c e _ (does.promises n) = promises (record e { heap = _ }) _ (heap e _ stays)
-does-changed c e _ (does.settles n h state p is) = promises (record e { heap = _ }) _ (heap e _ stays)
+does-changed c e _ (does.settles n h state p is) = book (record e { heap = _; promises = _ }) _ (promises (record e { heap = _ }) _ (heap e _ stays))
+does-changed c e _ (does.reacts v entry payload) = book (record e { promises = _ }) _ (promises e _ stays)
+does-changed c e _ (does.reads v is) = heap e _ stays
 does-changed c e _ (does.adds_hook entry argument) = book (record e { hooks = _ }) _ (hooks e _ stays)
 does-changed c e _ (does.removes_hook entry argument) =
     let t : Option ℕ = hook_ticket (caller_of e.frames) entry argument e.hooks in
@@ -135,4 +137,5 @@ ended-changed c v cut e =
     let ends : (h : Heap) (s : Status) → Changed c e (record e { heap = h; frames = tail e.frames; last = s }) =
     λ h s. last (record e { heap = h; frames = tail e.frames }) s (left h) in
     ended-by v cut e (λ why d. Changed c e d.after) (λ w. ends _ _) (λ p. ends _ _) (ends _ _)
-    (book (record e { heap = _; frames = _; pending = _ }) _ (pending (record e { heap = _; frames = _ }) _ (left _)))
+    (promises (record e { heap = _; frames = _; pending = _; book = _ }) _
+    (book (record e { heap = _; frames = _; pending = _ }) _ (pending (record e { heap = _; frames = _ }) _ (left _))))

@@ -17,7 +17,7 @@ use Rattle.napi_types.specs.parts.HeapCalls.{addon_effect}
 use Rattle.napi_types.specs.parts.HeapChanges.{new_value, with_handle}
 use Rattle.napi_types.specs.parts.Hooks.{hook_ticket}
 use Rattle.napi_types.specs.parts.InstanceData.{InstanceData, instance_ticket, with_instance}
-use Rattle.napi_types.specs.parts.Promises.{deferred_promise, with_settled}
+use Rattle.napi_types.specs.parts.Promises.{deferred_promise}
 use Rattle.napi_types.specs.parts.References.{referred_value, with_reference, without_reference, with_count}
 use Rattle.napi_types.specs.parts.Values.{undefined_value}
 use Rattle.napi_types.specs.environment.Calls.{effect}
@@ -25,7 +25,7 @@ use Rattle.napi_types.specs.environment.Collection.{collected}
 use Rattle.napi_types.specs.environment.Environment.{Environment, with_heap}
 use Rattle.napi_types.specs.environment.ExceptionCalls.{with_pending, with_thrown_error}
 use Rattle.napi_types.specs.environment.HookCalls.{hooking, async_hooking, unhooking, async_unhooking}
-use Rattle.napi_types.specs.environment.PromiseCalls.{with_promises, with_settler, promising, settling, resolved, rejected}
+use Rattle.napi_types.specs.environment.PromiseCalls.{with_settlement, promising, settling, resolved, rejected, reacting, reaction_value, reaction_told}
 use Rattle.napi_types.specs.environment.ReferenceCalls.{with_references, value_told, counted_up}
 use Rattle.napi_types.specs.environment.Registering.{finalizer_of, registering, registered_only, withdrawing}
 use Rattle.napi_types.specs.environment.Roots.{reach}
@@ -70,10 +70,12 @@ pub data Effect (c : Call) (e : Environment) : Option Duty → Option Duty → E
   deletes : (r : ℕ) → Effect c e None None (with_references (without_reference r e.references) e)
   counts : (r count : ℕ) → Effect c e None None (with_references (with_count r count e.references) e)
   collects : Effect c e None None (collected (reach e) e)
-  -- a new promise, and a deferred that is settled
+  -- a new promise, a deferred that is settled, a reaction that is added, and the value that settled its promise
   promises : (n : ℕ) → Effect c e None None (promising e n).after
   settles : (n h state p : ℕ) → deferred_promise e.promises n ≡ Some p
-      → Effect c e None None (with_promises (with_settler p (handle_value e.heap h) e.heap) (with_settled n p state e.promises) e)
+      → Effect c e None None (with_settlement n p (handle_value e.heap h) state e)
+  reacts : (v entry payload : ℕ) → Effect c e (Some (ticket_duty (new_ticket e.book))) None (reacting e v entry payload).after
+  reads : (v : ℕ) → reaction_value e ≡ Some v → Effect c e None None (with_heap e (with_handle v e.heap))
   -- the hooks, a finalizer that is withdrawn, and that exit is asked
   adds_hook : (entry argument : ℕ) → Effect c e (Some (ticket_duty (new_ticket e.book))) None (hooking e (caller_of e.frames) entry argument).after
   removes_hook : (entry argument : ℕ)
@@ -120,6 +122,10 @@ module _ (c : Call) (e : Environment) where
   settling-effect : (n h state : ℕ) (p : Option ℕ) → deferred_promise e.promises n ≡ p → EffectOf c e (settling e n (handle_value e.heap h) state p)
   settling-effect n h state None is = rests
   settling-effect n h state (Some p) is = settles n h state p is
+
+  reading-effect : (v : Option ℕ) → reaction_value e ≡ v → EffectOf c e (reaction_told e v)
+  reading-effect None is = rests
+  reading-effect (Some v) is = reads v is
 
 -- EACH CALL, ONCE AND FOR ALL
 new-finalizes : (e : Environment) (payload entry hint : ℕ) (book : Book)
@@ -189,6 +195,8 @@ effect-of e (call.RemoveAsyncCleanupHook hook) n = removes_async hook.0
 effect-of e call.CreatePromise n = promises n
 effect-of e (call.ResolveDeferred d v) n = settling-effect _ e d.0 v.0 resolved (deferred_promise e.promises d.0) refl
 effect-of e (call.RejectDeferred d v) n = settling-effect _ e d.0 v.0 rejected (deferred_promise e.promises d.0) refl
+effect-of e (call.AddReaction h entry payload) n = reacts (handle_value e.heap h.0) entry payload
+effect-of e call.GetReactionValue n = reading-effect _ e (reaction_value e) refl
 effect-of e call.Collect n = collects
 effect-of e call.Exit n = asks_exit refl
 effect-of e c n = tells n

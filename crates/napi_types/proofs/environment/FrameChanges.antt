@@ -17,7 +17,8 @@ use Rattle.napi_types.specs.parts.Book.{Book, owed_tickets}
 use Rattle.napi_types.specs.parts.Frames.{caller_of, cause_of, duty_of, ask_counted, local_frames}
 use Rattle.napi_types.specs.parts.FunctionCalls.{callee_of}
 use Rattle.napi_types.specs.environment.Changes.{call_change}
-use Rattle.napi_types.specs.environment.Ends.{duty_ended, end_change_by, uncut_call_end, end_change}
+use Rattle.napi_types.specs.parts.Promises.{Promises}
+use Rattle.napi_types.specs.environment.Ends.{duty_ended, reaction_ended, end_change_by, uncut_call_end, end_change}
 use Rattle.napi_types.specs.environment.Entering.{is_entering, enter_change, function_change, asked_change}
 use Rattle.napi_types.specs.environment.Environment.{Environment}
 use Rattle.napi_types.specs.environment.Refusals.{refusal}
@@ -49,16 +50,19 @@ registry-parts r e same = record {
 -- THE END OF A FRAME
 -- the registry after the end of a duty. Of the registry the end of a frame changes this and nothing else
 abbrev pub registry_ended : Option Duty → Registry → Registry
-registry_ended d r = record r { book = duty_ended d r.book }
+registry_ended d r = record r { book = duty_ended d r.book; promises = reaction_ended d r.promises }
 
 -- the duty that ends with a frame that began for this reason: none with that of a call
 abbrev pub ending_duty : Cause → Option Duty → Option Duty
 ending_duty cause.Call d = None
 ending_duty _ d = d
 
--- the book after such a frame
+-- the book after such a frame, and the promises
 abbrev pub book_left : Cause → Option Duty → Book → Book
 book_left c d book = duty_ended (ending_duty c d) book
+
+abbrev pub promises_after : Cause → Option Duty → Promises → Promises
+promises_after c d p = reaction_ended (ending_duty c d) p
 
 -- what the end of a frame keeps: all but its frame and its scopes, its duty, the pending exception and the last status; it issues one handle at most.
 -- The frame began for this reason

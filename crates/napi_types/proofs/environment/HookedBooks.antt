@@ -3,6 +3,7 @@ use Rattle.std.proofs.Common.{◌≡◌, ◌≢◌, ◌∙◌, ℕ, ◌<◌, ◌
 use Rattle.std.specs.List.{All}
 use Rattle.std.proofs.lemmas.Bool.{eqb-true, eq-eqb, or_left, or_right}
 use Rattle.std.proofs.lemmas.List.{map-append}
+use Rattle.std.proofs.lemmas.Option.{same_Some}
 use Rattle.std.proofs.lemmas.List.Elements.{All-nil, All-head, All-tail, All-push, All-map, All-weaker, All-filter, filter_passes}
 use Rattle.std.proofs.lemmas.List.Folds.{list_any-append}
 use Rattle.std.proofs.lemmas.Map.Views.{any-filter_same}
@@ -117,21 +118,25 @@ changed-spares stays change keeps test book each = record { registered = registe
         let kept = (each n u.registration u.there u.holds).owed (sym (is_at-changed_where is_owed change test book n u.registration u.there) ∙ is) in
         (kept.0, was, at-state is_owed book n u.registration u.there ∙ kept.1)
 
--- a change of finalizers alone
-pub finalizers-go : (p : Phase) (change : Registration → Registration) → KeepsCause change → (test : ℕ → Bool) (book : Book)
-    → ((n : ℕ) → test n ≡ true → cause_at book n ≡ Some cause.Finalize) → BookGoes p every_ticket book (changed_where change test book)
-finalizers-go p change keeps test book finalizers =
+-- a change of tickets alone that are of this cause, which is not that of hooks
+pub others-go : (p : Phase) (why : Cause) → why ≢ cause.Hook → (change : Registration → Registration) → KeepsCause change → (test : ℕ → Bool) (book : Book)
+    → ((n : ℕ) → test n ≡ true → cause_at book n ≡ Some why) → BookGoes p every_ticket book (changed_where change test book)
+others-go p why other change keeps test book theirs =
     record { causes = changed-causes change keeps test book; spares = λ early. changed-spares every_ticket change keeps test book each }
   where
     each : (n : ℕ) (r : Registration) → registration_at book n ≡ Some r → r.cause ≡ cause.Hook → SparesState true r.state (cond (test n) (change r) r).state
-    each n r there hook = by (test n) (finalizers n)
+    each n r there hook = by (test n) (theirs n)
       where
-        by : (b : Bool) → (b ≡ true → cause_at book n ≡ Some cause.Finalize) → SparesState true r.state (cond b (change r) r).state
-        by true finalizer =
-            let both : Some cause.Hook ≡ Some cause.Finalize = sym (at-cause book n r there ∙ ap Some hook) ∙ finalizer refl in
-            let no : ⊥ = cc in
-            absurd no
-        by false finalizer = same-spares r.state
+        by : (b : Bool) → (b ≡ true → cause_at book n ≡ Some why) → SparesState true r.state (cond b (change r) r).state
+        by true its =
+            let both : Some cause.Hook ≡ Some why = sym (at-cause book n r there ∙ ap Some hook) ∙ its refl in
+            absurd (other (sym (same_Some cause.Hook why both)))
+        by false its = same-spares r.state
+
+-- of finalizers alone
+pub finalizers-go : (p : Phase) (change : Registration → Registration) → KeepsCause change → (test : ℕ → Bool) (book : Book)
+    → ((n : ℕ) → test n ≡ true → cause_at book n ≡ Some cause.Finalize) → BookGoes p every_ticket book (changed_where change test book)
+finalizers-go p change keeps test book finalizers = others-go p cause.Finalize (λ is. cc) change keeps test book finalizers
 
 -- a change that leaves what is registered, and brings nothing to be due
 calm-goes : (p : Phase) (change : Registration → Registration) → KeepsCause change → (test : ℕ → Bool) (book : Book)

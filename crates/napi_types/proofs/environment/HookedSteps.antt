@@ -1,9 +1,9 @@
 -- What hooks, the book and what else has tickets say of each other: every event of the environment keeps it.
-use Rattle.std.proofs.Common.{◌≡◌, ◌<◌, ◌∙◌, ℕ, zero, suc, ◌==◌, Bool, true, false, not, ◌&&◌, ◌||◌, cond, IsTrue, List, [], ◌∷◌, map, filter, find, Option, Some, None, option_map, is_none, IfSome, refl, ap, sym, subst, inl, inr}
+use Rattle.std.proofs.Common.{◌≡◌, ◌<◌, ◌∙◌, ℕ, zero, suc, ◌+◌, ◌==◌, Bool, true, false, not, ◌&&◌, ◌||◌, cond, IsTrue, List, [], ◌∷◌, ◌++◌, map, filter, find, Option, Some, None, option_map, is_none, IfSome, refl, ap, sym, subst, inl, inr}
 use Rattle.std.specs.List.{All}
-use Rattle.std.specs.Option.{option_and_then}
+use Rattle.std.specs.Option.{option_and_then, unwrap_or}
 use Rattle.std.proofs.lemmas.Bool.{eqb-true, or_parts}
-use Rattle.std.proofs.lemmas.List.Elements.{All-nil, All-head, All-tail, All-set, All-replicate, All-weaker}
+use Rattle.std.proofs.lemmas.List.Elements.{All-nil, All-head, All-tail, All-set, All-replicate, All-filter, All-map, All-push, All-weaker}
 use Rattle.std.proofs.lemmas.Option.{IfSome_then, same_Some}
 use Rattle.napi_types.specs.declared.call.Args.{Args}
 use Rattle.napi_types.specs.declared.call.Call.{Call}
@@ -11,6 +11,7 @@ use Rattle.napi_types.specs.declared.call.Call.TheVariants as call
 use Rattle.napi_types.specs.declared.entry.Cause.{Cause}
 use Rattle.napi_types.specs.declared.entry.Cause.TheVariants as cause
 use Rattle.napi_types.specs.declared.entry.Duty.{Duty}
+use Rattle.napi_types.specs.declared.entry.Duty.TheVariants as duty
 use Rattle.napi_types.specs.declared.entry.Entry.{Entry}
 use Rattle.napi_types.specs.declared.entry.Out.TheVariants as out
 use Rattle.napi_types.specs.declared.entry.Phase.{Phase}
@@ -27,7 +28,7 @@ use Rattle.napi_types.specs.parts.Frames.{caller_of, cause_of, duty_of}
 use Rattle.napi_types.specs.parts.Heap.{handle_value}
 use Rattle.napi_types.specs.parts.Hooks.{Hook, is_hook, hook_ticket, last_hook, without_hook}
 use Rattle.napi_types.specs.parts.InstanceData.{InstanceData, Instances, instance_ticket}
-use Rattle.napi_types.specs.parts.Promises.{Promises, promises_left, with_settled}
+use Rattle.napi_types.specs.parts.Promises.{Promise, Promises, promise_at, state_of, reactions_of, is_reaction_of, promise_changed, promises_left, with_promise, with_settled, with_reaction, reactions_settled}
 use Rattle.napi_types.specs.environment.Calls.{effect, answer}
 use Rattle.napi_types.specs.environment.Changes.{opening_change, init_change, call_change, is_fresh_result, with_none_waiting, book_in, in_phase, gone_change}
 use Rattle.napi_types.specs.environment.Collection.{collected, is_freed}
@@ -35,23 +36,25 @@ use Rattle.napi_types.specs.environment.Ends.{end_change}
 use Rattle.napi_types.specs.environment.Entering.{enter_change, asked_change}
 use Rattle.napi_types.specs.environment.Environment.{Environment, OpenedWith, new_environment}
 use Rattle.napi_types.specs.environment.HookCalls.{hook_registration, hooking, async_hooking, unhooked, unhooking, async_unhooking}
-use Rattle.napi_types.specs.environment.Hooked.{is_from_finals_on, StandsIn, HasFinalizer, IsForHook, StandsWhileSet, HasItsNumber, AsyncHooksAgree, IsHooked}
-use Rattle.napi_types.specs.environment.PromiseCalls.{promising, with_promises, with_settler}
+use Rattle.napi_types.specs.environment.Hooked.{is_from_finals_on, StandsIn, HasFinalizer, HasReactions, IsForHook, StandsWhileSet, HasItsNumber, AsyncHooksAgree, IsHooked}
+use Rattle.napi_types.specs.environment.PromiseCalls.{promising, with_settlement, reaction_of, reacting}
 use Rattle.napi_types.specs.environment.Registering.{finalizer_of, withdrawing}
 use Rattle.napi_types.specs.environment.Registry.{registry_of}
 use Rattle.napi_types.specs.environment.Roots.{reach}
 use Rattle.napi_types.specs.environment.Tickets.{hooks_left, hooks_waiting, ticket_change}
 use Rattle.napi_types.proofs.plain.Lists.{find-passes}
-use Rattle.napi_types.proofs.plain.Maps.{filter_all}
+use Rattle.napi_types.proofs.plain.Found.{found-All}
+use Rattle.napi_types.proofs.plain.Maps.{All-with_record, among-holds, filter_all}
 use Rattle.napi_types.proofs.parts.AttachedTickets.{HoldsAttached, HoldsAttached-from, tickets_in-holds, tickets_where-holds, wrap_ticket-holds, HoldsAttached-with_wrap, HoldsAttached-without_wrap, HoldsAttached-with_attached, HoldsAttached-left_on, HoldsAttached-weaker}
 use Rattle.napi_types.proofs.parts.Books.{withdrawn-leaves, leaves-in}
-use Rattle.napi_types.proofs.parts.Moved.{at-state}
+use Rattle.napi_types.proofs.parts.Moved.{at-state, at-cause, registration_at-new}
+use Rattle.napi_types.proofs.parts.Moves.{Settles, moved_by, settled-moves}
 use Rattle.napi_types.proofs.environment.AnswersKeep.{course-parts}
 use Rattle.napi_types.proofs.environment.Effects as does
 use Rattle.napi_types.proofs.environment.AsyncHooked.{distinct-none, async-below, async-book, async-unhooked, async-begun, async-abandoned, async-removed, async-plain, async-added}
 use Rattle.napi_types.proofs.environment.Effects.{Finalizes, HangsOn, Attaches, removing, Effect, effect-of}
-use Rattle.napi_types.proofs.environment.FrameChanges.{HasRegistry, registry-parts, book_left, KeepsButFrame, ended-keeps, KeepsAndEnters, enter_change-keeps}
-use Rattle.napi_types.proofs.environment.HookedBooks.{KeepsCauses, BookGoes, every_ticket, all_but_ticket, HooksAgree, goes-nowhere, late-goes, push-goes, push-causes, changed-causes, finalizers-go, begun-goes, left-goes, ticket-goes, listed-goes, listed-push, listed-within}
+use Rattle.napi_types.proofs.environment.FrameChanges.{HasRegistry, registry-parts, book_left, promises_after, KeepsButFrame, ended-keeps, KeepsAndEnters, enter_change-keeps}
+use Rattle.napi_types.proofs.environment.HookedBooks.{KeepsCauses, BookGoes, every_ticket, all_but_ticket, HooksAgree, goes-nowhere, late-goes, push-goes, push-causes, changed-causes, others-go, finalizers-go, begun-goes, left-goes, ticket-goes, listed-goes, listed-push, listed-within}
 use Rattle.napi_types.proofs.environment.Cases.{answer-by, asked-by}
 
 -- FINALIZERS
@@ -62,8 +65,13 @@ instances-go : (old new : Book) (is : Instances) → KeepsCauses old new → All
 instances-go old new is causes all =
     All-weaker (HasFinalizer old) (HasFinalizer new) (λ i h. IfSome_then (option_and_then (λ (d : InstanceData). d.ticket) i) h (λ n here. causes n cause.Finalize here)) is all
 
+reactions-go : (old new : Book) (ps : List Promise) → KeepsCauses old new → All (HasReactions old) ps → All (HasReactions new) ps
+reactions-go old new ps causes all =
+    All-weaker (HasReactions old) (HasReactions new) (λ r has.
+    All-weaker (λ m. cause_at old m ≡ Some cause.Reaction) (λ m. cause_at new m ≡ Some cause.Reaction) (λ m is. causes m cause.Reaction is) r.reactions has) ps all
+
 -- that of instance data
-instance-finalizes : (book : Book) (is : Instances) (addon : ℕ) → All (HasFinalizer book) is → IfSome (instance_ticket is addon) (Finalizes book)
+pub instance-finalizes : (book : Book) (is : Instances) (addon : ℕ) → All (HasFinalizer book) is → IfSome (instance_ticket is addon) (Finalizes book)
 instance-finalizes book [] addon all = tt
 instance-finalizes book (i ∷ is) zero all = All-head (HasFinalizer book) i is all
 instance-finalizes book (i ∷ is) (suc addon) all = instance-finalizes book is addon (All-tail (HasFinalizer book) i is all)
@@ -76,26 +84,29 @@ attached : (e : Environment) → IsHooked e → HoldsAttached (Finalizes e.book)
 attached e h = HoldsAttached-from (Finalizes e.book) e.attachments h.attached
 
 hooked-by : (e : Environment) → HooksAgree e.phase e.book e.hooks → HoldsAttached (Finalizes e.book) e.attachments → All (HasFinalizer e.book) e.instances
-    → AsyncHooksAgree e.book e.hooks e.async_hooks → IsHooked e
-hooked-by e l on is agree = record {
+    → All (HasReactions e.book) e.promises.promises → AsyncHooksAgree e.book e.hooks e.async_hooks → IsHooked e
+hooked-by e l on is reactions agree = record {
   rise = l.rise;
   hooks = l.stand;
   others = l.others;
   attached = tickets_in-holds (Finalizes e.book) e.attachments on;
   instances = is;
+  reactions = reactions;
   async = agree;
 }
 
 -- the book goes a step, and the hooks stay whose tickets pass
 hooked-goes : (old new : Environment) (stays : ℕ → Bool) → (is_from_finals_on new.phase ≡ false → is_from_finals_on old.phase ≡ false)
     → BookGoes new.phase stays old.book new.book
-    → new.hooks ≡ filter (λ h. stays h.ticket) old.hooks → new.attachments ≡ old.attachments → new.instances ≡ old.instances
+    → new.hooks ≡ filter (λ h. stays h.ticket) old.hooks → new.attachments ≡ old.attachments → new.instances ≡ old.instances → new.promises ≡ old.promises
     → AsyncHooksAgree new.book new.hooks new.async_hooks → IsHooked old → IsHooked new
-hooked-goes old new stays sooner goes hooks attachments instances agree h =
+hooked-goes old new stays sooner goes hooks attachments instances promises agree h =
     hooked-by new
     (subst (λ hs. HooksAgree new.phase new.book hs) (sym hooks) (listed-goes old.phase new.phase stays old.book new.book old.hooks sooner goes (listed old h)))
     (subst (λ a. HoldsAttached (Finalizes new.book) a) (sym attachments) (attached-goes old.book new.book old.attachments goes.causes (attached old h)))
-    (subst (λ is. All (HasFinalizer new.book) is) (sym instances) (instances-go old.book new.book old.instances goes.causes h.instances)) agree
+    (subst (λ is. All (HasFinalizer new.book) is) (sym instances) (instances-go old.book new.book old.instances goes.causes h.instances))
+    (subst (λ (p : Promises). All (HasReactions new.book) p.promises) (sym promises)
+    (reactions-go old.book new.book old.promises.promises goes.causes h.reactions)) agree
 
 -- the asynchronous hooks are as they were, and each ticket keeps why its frame begins
 same-async : (old new : Environment) → KeepsCauses old.book new.book → new.hooks ≡ old.hooks → new.async_hooks ≡ old.async_hooks → IsHooked old
@@ -113,22 +124,75 @@ unchanged old new phase registry h =
     let same : HasRegistry (registry_of old) new = registry-parts (registry_of old) new registry in
     let goes : BookGoes new.phase every_ticket old.book new.book = subst (λ b. BookGoes new.phase every_ticket old.book b) (sym same.book) (goes-nowhere new.phase old.book) in
     hooked-goes old new every_ticket (λ early. ap is_from_finals_on (sym phase) ∙ early) goes
-    (same.hooks ∙ all-stay old.hooks) same.attachments same.instances (same-async old new goes.causes same.hooks same.async_hooks h) h
+    (same.hooks ∙ all-stay old.hooks) same.attachments same.instances same.promises (same-async old new goes.causes same.hooks same.async_hooks h) h
 
 -- one thing changes alone
 hooked-book : (e : Environment) (book : Book) → BookGoes e.phase every_ticket e.book book → IsHooked e → IsHooked (record e { book = book })
 hooked-book e book goes h =
-    hooked-goes e (record e { book = book }) every_ticket (λ early. early) goes (all-stay e.hooks) refl refl
+    hooked-goes e (record e { book = book }) every_ticket (λ early. early) goes (all-stay e.hooks) refl refl refl
     (async-book e.book book e.hooks e.async_hooks goes.causes h.async) h
 
 hooked-attachments : (e : Environment) (a : Attachments) → HoldsAttached (Finalizes e.book) a → IsHooked e → IsHooked (record e { attachments = a })
-hooked-attachments e a on h = hooked-by (record e { attachments = a }) (listed e h) on h.instances h.async
+hooked-attachments e a on h = hooked-by (record e { attachments = a }) (listed e h) on h.instances h.reactions h.async
 
 hooked-instances : (e : Environment) (is : Instances) → All (HasFinalizer e.book) is → IsHooked e → IsHooked (record e { instances = is })
-hooked-instances e is all h = hooked-by (record e { instances = is }) (listed e h) (attached e h) all h.async
+hooked-instances e is all h = hooked-by (record e { instances = is }) (listed e h) (attached e h) all h.reactions h.async
 
-hooked-promises : (e : Environment) (p : Promises) → IsHooked e → IsHooked (record e { promises = p })
-hooked-promises e p h = hooked-by (record e { promises = p }) (listed e h) (attached e h) h.instances h.async
+hooked-promises : (e : Environment) (p : Promises) → All (HasReactions e.book) p.promises → IsHooked e → IsHooked (record e { promises = p })
+hooked-promises e p reactions h = hooked-by (record e { promises = p }) (listed e h) (attached e h) h.instances reactions h.async
+
+-- PROMISES
+-- a new one has no reactions
+reactions-made : (book : Book) (v n : ℕ) (p : Promises) → All (HasReactions book) p.promises → All (HasReactions book) (with_promise v n p).promises
+reactions-made book v n p all =
+    All-with_record (λ (r : Promise). r.value) (record { value = v; state = 0; reactions = [] }) (HasReactions book) p.promises
+    (All-nil (λ m. cause_at book m ≡ Some cause.Reaction)) all
+
+-- one of them changes
+reactions-changed : (book : Book) (change : Promise → Promise) → ((r : Promise) → HasReactions book r → HasReactions book (change r)) → (n : ℕ) (ps : List Promise)
+    → All (HasReactions book) ps → All (HasReactions book) (promise_changed change n ps)
+reactions-changed book change keeps n ps all =
+    All-map (HasReactions book) (λ (r : Promise). cond (r.value == n) (change r) r) ps
+    (All-weaker (HasReactions book) (λ (r : Promise). HasReactions book (cond (r.value == n) (change r) r)) (λ r has. by r (r.value == n) has) ps all)
+  where
+    by : (r : Promise) (b : Bool) → HasReactions book r → HasReactions book (cond b (change r) r)
+    by r true has = keeps r has
+    by r false has = has
+
+-- a reaction has ended
+reactions-without : (book : Book) (t : ℕ) (ps : List Promise) → All (HasReactions book) ps
+    → All (HasReactions book) (map (λ (r : Promise). record r { reactions = filter (λ m. not (m == t)) r.reactions }) ps)
+reactions-without book t ps all =
+    All-map (HasReactions book) (λ (r : Promise). record r { reactions = filter (λ m. not (m == t)) r.reactions }) ps
+    (All-weaker (HasReactions book) (λ (r : Promise). HasReactions book (record r { reactions = filter (λ m. not (m == t)) r.reactions }))
+    (λ r has. All-filter (λ m. not (m == t)) (λ m. cause_at book m ≡ Some cause.Reaction) r.reactions has) ps all)
+
+reactions-after : (book : Book) (c : Cause) (d : Option Duty) (p : Promises) → All (HasReactions book) p.promises
+    → All (HasReactions book) (promises_after c d p).promises
+reactions-after book cause.Call d p all = all
+reactions-after book _ (Some (duty.Ticket t)) p all = reactions-without book t.0 p.promises all
+reactions-after book _ _ p all = all
+
+-- those of one are reactions
+pub reactions-of : (book : Book) (p : Promises) (v n : ℕ) → All (HasReactions book) p.promises → is_reaction_of p v n ≡ true
+    → cause_at book n ≡ Some cause.Reaction
+reactions-of book p v n all is = by (promise_at p v) refl is
+  where
+    by : (o : Option Promise) → promise_at p v ≡ o → has_number n (unwrap_or (option_map (λ (r : Promise). r.reactions) o) []) ≡ true
+        → cause_at book n ≡ Some cause.Reaction
+    by None there is = cc
+    by (Some r) there is =
+        among-holds (λ m. cause_at book m ≡ Some cause.Reaction) r.reactions n
+        (found-All (λ (q : Promise). q.value) (HasReactions book) v p.promises r all there) is
+
+-- they are settled
+hooked-settled : (e : Environment) (state : ℕ) (tickets : List ℕ) → ((n : ℕ) → has_number n tickets ≡ true → cause_at e.book n ≡ Some cause.Reaction)
+    → IsHooked e → IsHooked (record e { book = reactions_settled state tickets e.book })
+hooked-settled e state tickets theirs h =
+    let test : ℕ → Bool = λ n. has_number n tickets in
+    hooked-book e _
+    (subst (λ b. BookGoes e.phase every_ticket e.book b) (sym (settled-moves state tickets e.book))
+    (others-go e.phase cause.Reaction (λ is. cc) (moved_by (Settles state)) (λ r. refl) test e.book theirs)) h
 
 -- FINALIZERS OF CALLS
 -- what is attached changes in one place
@@ -165,6 +229,7 @@ hooking-hooked e addon entry argument h =
     hooked-by (hooking e addon entry argument).after (listed-push e.phase e.book e.hooks _ r refl refl refl (listed e h))
     (attached-goes e.book (with_registration r e.book) e.attachments (push-causes r e.book) (attached e h))
     (instances-go e.book (with_registration r e.book) e.instances (push-causes r e.book) h.instances)
+    (reactions-go e.book (with_registration r e.book) e.promises.promises (push-causes r e.book) h.reactions)
     (async-plain e.book r e.hooks e.async_hooks h.async _ refl refl)
 
 -- a number that no asynchronous hook has
@@ -177,9 +242,10 @@ async_hooking-hooked e addon entry argument n fresh h =
     hooked-by (async_hooking e addon entry argument n).after (listed-push e.phase e.book e.hooks _ r refl refl refl (listed e h))
     (attached-goes e.book (with_registration r e.book) e.attachments (push-causes r e.book) (attached e h))
     (instances-go e.book (with_registration r e.book) e.instances (push-causes r e.book) h.instances)
+    (reactions-go e.book (with_registration r e.book) e.promises.promises (push-causes r e.book) h.reactions)
     (async-added e.book r e.hooks e.async_hooks h.async _ refl n refl refl fresh (listed-within e.phase e.book e.hooks h.hooks))
 
-found-holds : {A : Type 0} (P : A → Type 0) (test : A → Bool) (xs : List A) → All P xs → IfSome (find test xs) P
+pub found-holds : {A : Type 0} (P : A → Type 0) (test : A → Bool) (xs : List A) → All P xs → IfSome (find test xs) P
 found-holds P test [] all = tt
 found-holds P test (x ∷ xs) all = by (test x) (found-holds P test xs (All-tail P x xs all))
   where
@@ -232,7 +298,7 @@ unhooking-hooked : (e : Environment) (others : List AsyncHook) (t : Option ℕ) 
     → IsHooked e
     → IsHooked (unhooking (record e { async_hooks = others }) t).after
 unhooking-hooked e others None waits agree h =
-    hooked-goes e (record e { async_hooks = others }) every_ticket (λ early. early) (goes-nowhere e.phase e.book) (all-stay e.hooks) refl refl agree h
+    hooked-goes e (record e { async_hooks = others }) every_ticket (λ early. early) (goes-nowhere e.phase e.book) (all-stay e.hooks) refl refl refl agree h
 unhooking-hooked e others (Some t) waits agree h = by (is_at is_registered e.book t) refl
   where
     left : Environment
@@ -243,12 +309,12 @@ unhooking-hooked e others (Some t) waits agree h = by (is_at is_registered e.boo
         let gone : (r : Registration) → registration_at e.book t ≡ Some r → is_owed (made_withdrawn r.state) ≡ false =
         λ r there. withdrawn-leaves.after r.state (sym (at-state is_registered e.book t r there) ∙ is) in
         let goes : BookGoes e.phase (all_but_ticket t) e.book (moved_at made_withdrawn t e.book) = ticket-goes e.phase made_withdrawn t e.book gone in
-        hooked-goes e (withdrawn left t) (all_but_ticket t) (λ early. early) goes refl refl refl
+        hooked-goes e (withdrawn left t) (all_but_ticket t) (λ early. early) goes refl refl refl refl
         (async-book e.book (moved_at made_withdrawn t e.book) (without_hook t e.hooks) others goes.causes agree) h
     by false is =
         let late : is_from_finals_on e.phase ≡ false → ⊥ = λ early. let no : true ≡ false = sym (waits early) ∙ is in cc in
         hooked-goes e left (all_but_ticket t) (λ early. early)
-        (late-goes e.phase (all_but_ticket t) e.book e.book late (λ n why was. was)) refl refl refl agree h
+        (late-goes e.phase (all_but_ticket t) e.book e.book late (λ n why was. was)) refl refl refl refl agree h
 
 -- a plain one
 removing-hooked : (e : Environment) (entry argument : ℕ) → IsHooked e → IsHooked (removing e entry argument).after
@@ -301,6 +367,7 @@ collected-hooked e alive h =
     let left : Environment = record due { attachments = left_on freed e.attachments } in
     unchanged _ (collected alive e) refl refl
     (hooked-promises left (promises_left freed e.promises)
+    (All-filter (λ (r : Promise). not (freed r.value)) (HasReactions due.book) e.promises.promises fallen.reactions)
     (hooked-attachments due (left_on freed e.attachments) (HoldsAttached-left_on (Finalizes due.book) freed e.attachments (attached due fallen)) fallen))
 
 -- EVERY CALL
@@ -309,10 +376,25 @@ does-hooked : (c : Call) (e : Environment) {made dropped : Option Duty} (d : Env
     → ((entry argument : ℕ) → c ≡ call.AddAsyncCleanupHook entry argument → ⊥)
     → Effect c e made dropped d → IsHooked e → IsHooked d
 does-hooked c e _ other does.collects h = collected-hooked e (reach e) h
-does-hooked c e _ other (does.promises n) h = unchanged (record e { promises = _ }) (promising e n).after refl refl (hooked-promises e _ h)
+does-hooked c e _ other (does.promises n) h =
+    unchanged (record e { promises = _ }) (promising e n).after refl refl
+    (hooked-promises e _ (reactions-made e.book (e.heap.made + 1) n e.promises h.reactions) h)
 does-hooked c e _ other (does.settles n v state p is) h =
-    unchanged (record e { promises = _ }) (with_promises (with_settler p (handle_value e.heap v) e.heap) (with_settled n p state e.promises) e) refl refl
-    (hooked-promises e (with_settled n p state e.promises) h)
+    let settled : Environment = record e { book = reactions_settled state (reactions_of e.promises p) e.book } in
+    let k : IsHooked settled = hooked-settled e state (reactions_of e.promises p) (λ m its. reactions-of e.book e.promises p m h.reactions its) h in
+    unchanged (record settled { promises = _ }) (with_settlement n p (handle_value e.heap v) state e) refl refl
+    (hooked-promises settled (with_settled n p state e.promises)
+    (reactions-changed settled.book (λ r. record r { state = state }) (λ r has. has) p e.promises.promises k.reactions) k)
+does-hooked c e _ other (does.reacts v entry payload) h =
+    let r : Registration = reaction_of (caller_of e.frames) entry payload (state_of e.promises v) in
+    let more : Environment = record e { book = with_registration r e.book } in
+    let k : IsHooked more = hooked-book e _ (push-goes e.phase r e.book (λ is. cc)) h in
+    let t : ℕ = new_ticket e.book in
+    let new : cause_at more.book t ≡ Some cause.Reaction = at-cause more.book t r (registration_at-new e.book r) in
+    unchanged (record more { promises = _ }) (reacting e v entry payload).after refl refl
+    (hooked-promises more (with_reaction v t e.promises)
+    (reactions-changed more.book (λ q. record q { reactions = q.reactions ++ t ∷ [] })
+    (λ q has. All-push (λ m. cause_at more.book m ≡ Some cause.Reaction) q.reactions t has new) v e.promises.promises k.reactions) k)
 does-hooked c e _ other (does.adds_hook entry argument) h = hooking-hooked e (caller_of e.frames) entry argument h
 does-hooked c e _ other (does.removes_hook entry argument) h = removing-hooked e entry argument h
 does-hooked c e _ other (does.adds_async entry argument n is) h = absurd (other entry argument is)
@@ -366,6 +448,7 @@ hooked-opening given = record {
   others = λ early n hook is. absurd (none-given n cause.Hook hook);
   attached = λ n here. cc;
   instances = All-replicate (HasFinalizer []) given.addons None tt;
+  reactions = All-nil (HasReactions []);
   async = record { rise = tt; given = All-nil (IsForHook []); apart = distinct-none; set = All-nil (StandsWhileSet []); numbered = All-nil (HasItsNumber []) };
 }
 
@@ -379,8 +462,12 @@ pub hooked-ended : (v : Option HandleId) (cut : Option Why) (e : Environment) �
 hooked-ended v cut e h =
     let new : Environment = (end_change v cut e).after in
     let k : KeepsButFrame e new = ended-keeps v cut e in
-    let left : Environment = record e { book = book_left (cause_of e.frames) (duty_of e.frames) e.book } in
-    unchanged left new (course-parts e new k.course).phase k.registry (hooked-book e _ (left-goes e.phase (cause_of e.frames) (duty_of e.frames) e.book) h)
+    let c : Cause = cause_of e.frames in
+    let d : Option Duty = duty_of e.frames in
+    let ended : Environment = record e { book = book_left c d e.book } in
+    let left : IsHooked ended = hooked-book e _ (left-goes e.phase c d e.book) h in
+    unchanged (record ended { promises = promises_after c d e.promises }) new (course-parts e new k.course).phase k.registry
+    (hooked-promises ended (promises_after c d e.promises) (reactions-after ended.book c d e.promises left.reactions) left)
 
 -- in Hooks what begins is taken off the list; in every other phase it was due, and is no hook that is registered
 begun-hooked : (p : Phase) (n : ℕ) (r : Registration) (e : Environment) → registration_at e.book n ≡ Some r → may_begin_in p r.state ≡ true → IsHooked e
@@ -390,7 +477,7 @@ begun-hooked phase.Hooks n r e there may h =
     let gone : (q : Registration) → registration_at e.book n ≡ Some q → left q = λ q is. subst left (same_Some r q (sym there ∙ is)) ((leaves-in phase.Hooks).after r.state may) in
     let goes : BookGoes e.phase (all_but_ticket n) e.book (moved_at (begun_in phase.Hooks) n e.book) = ticket-goes e.phase
     (begun_in phase.Hooks) n e.book gone in
-    hooked-goes e _ (all_but_ticket n) (λ early. early) goes refl refl refl
+    hooked-goes e _ (all_but_ticket n) (λ early. early) goes refl refl refl refl
     (async-begun n e.book (moved_at (begun_in phase.Hooks) n e.book) e.hooks e.async_hooks goes.causes h.async) h
 begun-hooked _ n r e there may h = hooked-book e _ (begun-goes e.phase n e.book) h
 
@@ -408,16 +495,16 @@ sooner phase.Gone p next early = let no : ⊥ = cc in absurd no
 sooner _ p next early = refl
 
 pub hooked-phase : (p : Phase) (e : Environment) → next_phase e.phase ≡ Some p → IsHooked e → IsHooked (in_phase p e)
-hooked-phase p e next h = hooked-goes e (in_phase p e) every_ticket (sooner e.phase p next) (phase-goes p e.book) (all-stay e.hooks) refl refl
+hooked-phase p e next h = hooked-goes e (in_phase p e) every_ticket (sooner e.phase p next) (phase-goes p e.book) (all-stay e.hooks) refl refl refl
     (async-book e.book (book_in p e.book) e.hooks e.async_hooks (phase-goes p e.book).causes h.async) h
 
 pub hooked-gone : (e : Environment) → IsHooked e → IsHooked (gone_change e).after
-hooked-gone e h = hooked-goes e (gone_change e).after every_ticket (λ early. cc) (goes-nowhere phase.Gone e.book) (all-stay e.hooks) refl refl h.async h
+hooked-gone e h = hooked-goes e (gone_change e).after every_ticket (λ early. cc) (goes-nowhere phase.Gone e.book) (all-stay e.hooks) refl refl refl h.async h
 
 -- those that wait are abandoned
 pub hooked-abandoned : (e : Environment) → IsHooked e → IsHooked (with_none_waiting e)
 hooked-abandoned e h =
-    hooked-by (with_none_waiting e) (listed e h) (attached e h) h.instances (async-abandoned e.book e.hooks e.async_hooks h.async)
+    hooked-by (with_none_waiting e) (listed e h) (attached e h) h.instances h.reactions (async-abandoned e.book e.hooks e.async_hooks h.async)
 
 -- WHAT IT TELLS
 pub last-holds : (P : Hook → Type 0) (hooks : List Hook) (h : Hook) → All P hooks → last_hook hooks ≡ Some h → P h

@@ -1,5 +1,5 @@
 -- A statement on books that every move of a ticket keeps is kept by calls, ends of frames, begins and phases.
-use Rattle.std.proofs.Common.{◌≡◌, ◌≢◌, ◌==◌, ℕ, zero, suc, true, false, Option, Some, is_some, refl, subst, sym}
+use Rattle.std.proofs.Common.{◌≡◌, ◌≢◌, ◌∙◌, ◌==◌, ℕ, zero, suc, true, false, Option, Some, is_some, refl, subst, sym}
 use Rattle.std.specs.List.{All}
 use Rattle.std.proofs.lemmas.List.Elements.{All-push}
 use Rattle.std.proofs.lemmas.Option.{get_or_from_slice_get, slice_get_within}
@@ -13,6 +13,7 @@ use Rattle.napi_types.specs.declared.entry.Phase.TheVariants as phase
 use Rattle.napi_types.specs.declared.entry.Reply.{Reply}
 use Rattle.napi_types.specs.declared.entry.Why.{Why}
 use Rattle.napi_types.specs.declared.ids.HandleId.{HandleId}
+use Rattle.napi_types.specs.plain.Lists.{has_number}
 use Rattle.napi_types.specs.parts.Book.{Book, Registration, is_registered, made_due, made_withdrawn, made_ended, moved, moved_at, registration_at, begun_in, owed_tickets, with_registration, made_begun}
 use Rattle.napi_types.specs.parts.Frames.{caller_of, cause_of, duty_of}
 use Rattle.napi_types.specs.environment.Calls.{answer}
@@ -23,9 +24,9 @@ use Rattle.napi_types.specs.environment.Environment.{Environment}
 use Rattle.napi_types.specs.environment.Moments.{is_tearing}
 use Rattle.napi_types.specs.environment.Registry.{registry_of}
 use Rattle.napi_types.proofs.plain.Lists.{none-there}
-use Rattle.napi_types.proofs.parts.BookSteps.{BookStep, stays, adds, drops, collects, swaps}
+use Rattle.napi_types.proofs.parts.BookSteps.{BookStep, stays, adds, drops, collects, settles, swaps}
 use Rattle.napi_types.proofs.parts.Books.{NoneRegistered, owed-due_where}
-use Rattle.napi_types.proofs.parts.Moves.{Falls, Withdraws, Begins, Ends, unregistered-moved, MovesKeep, each-kept, changed_where-both}
+use Rattle.napi_types.proofs.parts.Moves.{Falls, Settles, Withdraws, Begins, Ends, unregistered-moved, MovesKeep, each-kept, changed_where-both, settled-moves}
 use Rattle.napi_types.proofs.environment.AnswersKeep.{call_change-keeps, torn-makes-none}
 use Rattle.napi_types.proofs.environment.FrameChanges.{book_left, registry-parts, ended-keeps, left-parts, enter_change-keeps}
 use Rattle.napi_types.proofs.environment.Cases.{asked-by}
@@ -56,6 +57,8 @@ module _ (Q : Book → Type 0) (kept : MovesKeep Q) where
   step-kept addon b _ _ _ new (adds r c s who why e) q = same-book _ c e (new refl r who why b q)
   step-kept addon b _ _ _ new (drops n c h e) q = same-book _ c e (kept Withdraws (λ m. m == n) b q)
   step-kept addon b _ _ _ new (collects test c e) q = same-book _ c e (kept Falls test b q)
+  step-kept addon b _ _ _ new (settles state tickets c e) q =
+      same-book _ c (e ∙ settled-moves state tickets b) (kept (Settles state) (λ n. has_number n tickets) b q)
   step-kept addon b _ _ _ new (swaps n r c h s who why e) q =
       same-book _ c e (new refl r who why (moved_at made_withdrawn n b) (kept Withdraws (λ m. m == n) b q))
 

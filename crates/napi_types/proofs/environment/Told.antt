@@ -21,7 +21,7 @@ use Rattle.napi_types.specs.parts.Promises.{deferred_promise}
 use Rattle.napi_types.specs.parts.References.{referred_value}
 use Rattle.napi_types.specs.environment.Calls.{effect, answer}
 use Rattle.napi_types.specs.environment.Environment.{Environment}
-use Rattle.napi_types.specs.environment.PromiseCalls.{settling, resolved, rejected}
+use Rattle.napi_types.specs.environment.PromiseCalls.{settling, resolved, rejected, reaction_value, reaction_told}
 use Rattle.napi_types.specs.environment.ReferenceCalls.{value_told, counted_up}
 use Rattle.napi_types.specs.environment.Registering.{finalizer_of, registering, registered_only, withdrawing}
 use Rattle.napi_types.specs.environment.WrapCalls.{referring_if}
@@ -82,6 +82,10 @@ module _ (c : Call) where
   settling-told e n v state None = told_plain _ refl refl refl
   settling-told e n v state (Some p) = told_plain _ refl refl refl
 
+  reaction-told : (e : Environment) (v : Option ℕ) → MayReply c (reaction_told e v).reply
+  reaction-told e None = told_plain _ refl refl refl
+  reaction-told e (Some v) = told_plain _ refl refl refl
+
 pub effect-told : (e : Environment) (c : Call) (n : ℕ) → MayReply c (effect e c n).reply
 effect-told e (call.ReferenceRef r) n = counted-told _ r.0 e (referred_value e.references r.0)
 effect-told e (call.GetReferenceValue r) n = value-told _ e (referred_value e.references r.0)
@@ -107,6 +111,8 @@ effect-told e (call.RemoveAsyncCleanupHook hook) n =
     withdrawing-told _ (registered_only e.book (set_ticket hook.0 e.async_hooks)) _ refl refl (told_plain _ refl refl refl)
 effect-told e (call.ResolveDeferred d v) n = settling-told _ e d.0 (handle_value e.heap v.0) resolved (deferred_promise e.promises d.0)
 effect-told e (call.RejectDeferred d v) n = settling-told _ e d.0 (handle_value e.heap v.0) rejected (deferred_promise e.promises d.0)
+effect-told e (call.AddReaction h entry payload) n = registering-told _ _ _ refl (omega arith) refl
+effect-told e call.GetReactionValue n = reaction-told _ e (reaction_value e)
 effect-told e c n = told_plain _ refl refl refl
 
 pub answer-told : (e : Environment) (c : Call) (n : ℕ) → MayReply c (answer e c n).reply

@@ -9,6 +9,7 @@ use Rattle.napi_types.specs.declared.entry.Phase.{Phase}
 use Rattle.napi_types.specs.declared.entry.Phase.TheVariants as phase
 use Rattle.napi_types.specs.plain.Lists.{has_number, up_to}
 use Rattle.napi_types.specs.plain.Room.{one_if}
+use Rattle.napi_types.specs.parts.Promises.{made_settled, reactions_settled}
 use Rattle.napi_types.specs.parts.Book.{Book, Registration, TicketState, Registered, Due, is_registered, is_due, is_owed, is_at, made_due, made_withdrawn, made_begun, made_due_and_begun, made_ended, changed_from, changed_where, moved, moved_at, due_where, all_due, registration_at, lowest_due, owed_tickets, with_registration, begun_in, may_begin_in}
 use Rattle.napi_types.proofs.plain.Issued.{has-up_to}
 use Rattle.napi_types.proofs.plain.Found.{apart-below, apart-above}
@@ -23,10 +24,10 @@ owed-cons r rs = by (is_owed r.state)
     by true = omega arith
     by false = omega arith
 
-pub owed-registered : (r : Registration) (book : Book) → r.state ≡ Registered → owed_tickets (with_registration r book) ≡ owed_tickets book + 1
-owed-registered r [] new = owed-cons r [] ∙ ap (λ s. one_if (is_owed s) + 0) new
-owed-registered r (q ∷ book) new =
-    let later : owed_tickets (with_registration r book) ≡ owed_tickets book + 1 = owed-registered r book new in
+pub owed-more : (r : Registration) (book : Book) → is_owed r.state ≡ true → owed_tickets (with_registration r book) ≡ owed_tickets book + 1
+owed-more r [] new = owed-cons r [] ∙ ap (λ b. one_if b + 0) new
+owed-more r (q ∷ book) new =
+    let later : owed_tickets (with_registration r book) ≡ owed_tickets book + 1 = owed-more r book new in
     let before : owed_tickets (q ∷ with_registration r book) ≡ one_if (is_owed q.state) + owed_tickets (with_registration r book) = owed-cons q (with_registration r book) in
     let now : owed_tickets (q ∷ book) ≡ one_if (is_owed q.state) + owed_tickets book = owed-cons q book in
     omega (arith, later, before, now)
@@ -61,6 +62,16 @@ changed_from-keeps change keeps test k (r ∷ rs) =
 
 pub owed-due_where : (test : ℕ → Bool) (book : Book) → owed_tickets (due_where test book) ≡ owed_tickets book
 owed-due_where test book = changed_from-keeps (moved made_due) (λ r. due-keeps r.state) test 1 book
+
+pub settled-keeps : (state : ℕ) (r : Registration) → is_owed (made_settled state r).state ≡ is_owed r.state
+settled-keeps state r = by (is_registered r.state) refl
+  where
+    by : (b : Bool) → is_registered r.state ≡ b → is_owed (cond b (moved made_due (record r { hint = state })) r).state ≡ is_owed r.state
+    by true is = due-keeps r.state
+    by false is = refl
+
+pub owed-settled : (state : ℕ) (tickets : List ℕ) (book : Book) → owed_tickets (reactions_settled state tickets book) ≡ owed_tickets book
+owed-settled state tickets book = changed_from-keeps (made_settled state) (settled-keeps state) (λ n. has_number n tickets) 1 book
 
 pub owed-ended : (n : ℕ) (book : Book) → owed_tickets (moved_at made_ended n book) ≡ owed_tickets book
 owed-ended n book = changed_from-keeps (moved made_ended) (λ r. ended-keeps r.state) (λ m. m == n) 1 book
@@ -234,3 +245,14 @@ length-changed_from change test k (r ∷ rs) = ap suc (length-changed_from chang
 
 pub length-changed_where : (change : Registration → Registration) (test : ℕ → Bool) (book : Book) → length (changed_where change test book) ≡ length book
 length-changed_where change test book = length-changed_from change test 1 book
+
+-- equal changes change the same
+changed_from-same : (f g : Registration → Registration) → ((r : Registration) → f r ≡ g r) → (test : ℕ → Bool) (k : ℕ) (rs : Book)
+    → changed_from k f test rs ≡ changed_from k g test rs
+changed_from-same f g same test k [] = refl
+changed_from-same f g same test k (r ∷ rs) =
+    ap (λ q. cond (test k) q r ∷ changed_from (suc k) f test rs) (same r) ∙ ap (λ qs. cond (test k) (g r) r ∷ qs) (changed_from-same f g same test (suc k) rs)
+
+pub changed_where-same : (f g : Registration → Registration) → ((r : Registration) → f r ≡ g r) → (test : ℕ → Bool) (book : Book)
+    → changed_where f test book ≡ changed_where g test book
+changed_where-same f g same test book = changed_from-same f g same test 1 book

@@ -18,6 +18,7 @@ use Rattle.napi_types.specs.parts.Frames.{cause_of, duty_of}
 use Rattle.napi_types.specs.parts.FunctionCalls.{left_value}
 use Rattle.napi_types.specs.parts.Heap.{Heap}
 use Rattle.napi_types.specs.parts.HeapChanges.{with_handle, without_frame}
+use Rattle.napi_types.specs.parts.Promises.{Promises, without_reaction}
 use Rattle.napi_types.specs.environment.Changes.{Change}
 use Rattle.napi_types.specs.environment.Environment.{Environment}
 
@@ -53,11 +54,20 @@ abbrev pub duty_ended : Option Duty → Book → Book
 duty_ended (Some (duty.Ticket ticket)) book = moved_at made_ended ticket.0 book
 duty_ended _ book = book
 
+-- a reaction whose frame ends has ended, and its promise no longer has it
+abbrev pub reaction_ended : Option Duty → Promises → Promises
+reaction_ended (Some (duty.Ticket ticket)) p = without_reaction ticket.0 p
+reaction_ended _ p = p
+
 -- a pending exception is cleared, and the duty that began the frame ends
 abbrev pub outermost_end_change : Option Why → Environment → Change
 outermost_end_change cut e = record {
   entry = host_entry host.End (end_out cut e.pending);
-  after = record (without_innermost_frame e) { pending = None; book = duty_ended (duty_of e.frames) e.book };
+  after = record (without_innermost_frame e) {
+    pending = None;
+    book = duty_ended (duty_of e.frames) e.book;
+    promises = reaction_ended (duty_of e.frames) e.promises;
+  };
 }
 
 -- a frame that began for this reason ends

@@ -11,6 +11,7 @@ use Rattle.napi_types.specs.parts.Attachments.{tickets_in}
 use Rattle.napi_types.specs.parts.Book.{Book, is_at, is_registered, is_owed, TicketsRise, cause_at}
 use Rattle.napi_types.specs.parts.Hooks.{Hook}
 use Rattle.napi_types.specs.parts.InstanceData.{InstanceData}
+use Rattle.napi_types.specs.parts.Promises.{Promise}
 use Rattle.napi_types.specs.environment.Environment.{Environment}
 
 -- from `finals` on
@@ -27,6 +28,10 @@ pub record StandsIn (p : Phase) (book : Book) (h : Hook) : Type 0 where
 -- instance data that has a ticket has that of a finalizer
 abbrev pub HasFinalizer : Book → Option InstanceData → Type 0
 HasFinalizer book i = IfSome (option_and_then (λ d. d.ticket) i) (λ n. cause_at book n ≡ Some cause.Finalize)
+
+-- the reactions of a promise have tickets of reactions
+abbrev pub HasReactions : Book → Promise → Type 0
+HasReactions book p = All (λ n. cause_at book n ≡ Some cause.Reaction) p.reactions
 
 -- the ticket of an asynchronous hook was given for a hook
 abbrev pub IsForHook : Book → AsyncHook → Type 0
@@ -61,5 +66,7 @@ pub record IsHooked (e : Environment) : Type 0 where
   -- what is attached to values has tickets of finalizers, and so has instance data
   pub attached : (n : ℕ) → has_number n (tickets_in e.attachments) ≡ true → cause_at e.book n ≡ Some cause.Finalize
   pub instances : All (HasFinalizer e.book) e.instances
+  -- the reactions of promises have tickets of reactions
+  pub reactions : All (HasReactions e.book) e.promises.promises
   -- the asynchronous hooks fit the list and the book
   pub async : AsyncHooksAgree e.book e.hooks e.async_hooks

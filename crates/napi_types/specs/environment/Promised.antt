@@ -2,7 +2,7 @@
 use Rattle.std.specs.Prelude.{◌≡◌, ℕ, ◌==◌, Bool, true, ◌&&◌, List}
 use Rattle.std.specs.List.{All, list_any}
 use Rattle.napi_types.specs.parts.Bodies.{is_linked}
-use Rattle.napi_types.specs.parts.Promises.{Deferred}
+use Rattle.napi_types.specs.parts.Promises.{Promise, Deferred}
 use Rattle.napi_types.specs.parts.Values.{Value}
 use Rattle.napi_types.specs.environment.Environment.{Environment}
 
@@ -14,6 +14,11 @@ has_linked n values = list_any (λ v. (v.number == n) && is_linked v.body) value
 abbrev pub IsOfLinked : List Value → Deferred → Type 0
 IsOfLinked values d = has_linked d.promise values ≡ true
 
--- each deferred that is not settled is that of a value which is there, and which may have a hidden child
+-- and so is a promise
+abbrev pub IsLinked : List Value → Promise → Type 0
+IsLinked values p = has_linked p.value values ≡ true
+
+-- each deferred that is not settled, and each promise, is that of a value which is there, and which may have a hidden child
 pub record IsPromised (e : Environment) : Type 0 where
   pub linked : All (IsOfLinked e.heap.values) e.promises.deferreds
+  pub promises : All (IsLinked e.heap.values) e.promises.promises

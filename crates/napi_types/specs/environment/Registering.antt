@@ -1,4 +1,4 @@
--- Calls that register a finalizer or a cleanup hook, or withdraw one.
+-- Calls that register a finalizer, a cleanup hook or a reaction, or withdraw one.
 use Rattle.std.specs.Prelude.{ℕ, cond, Option, Some, None, option_map}
 use Rattle.napi_types.specs.declared.entry.Cause.TheVariants as cause
 use Rattle.napi_types.specs.plain.Replies.{Answer}

@@ -1,5 +1,5 @@
--- The book of finalizers and cleanup hooks: each that is registered gets the next ticket, counted from 1. A ticket falls due or is withdrawn, begins once it
--- is due, and ends once it has begun, and moves in no other way.
+-- The book of finalizers, cleanup hooks and reactions: each that is registered gets the next ticket, counted from 1. A ticket falls due or is withdrawn,
+-- begins once it is due, and ends once it has begun, and moves in no other way.
 use Rattle.std.specs.Prelude.{ℕ, zero, suc, ◌+◌, ◌==◌, Bool, true, false, ◌||◌, cond, List, [], ◌∷◌, ◌++◌, length, filter, replicate, find, slice_get, Option, None, option_map, ◌<◌}
 use Rattle.std.specs.Option.{unwrap_or}
 use Rattle.std.specs.List.{All}

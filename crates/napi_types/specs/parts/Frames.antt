@@ -54,6 +54,11 @@ abbrev pub duty_of : List Frame → Option Duty
 duty_of [] = None
 duty_of (f ∷ fs) = f.duty
 
+-- the ticket of a duty, where it is that of one
+abbrev pub ticket_of : Option Duty → Option ℕ
+ticket_of (Some (duty.Ticket t)) = Some t.0
+ticket_of _ = None
+
 -- whether a duty is there that is the hub's: that of a work, an item or a thread-safe function
 abbrev pub is_hub_duty : Option Duty → Bool
 is_hub_duty None = false

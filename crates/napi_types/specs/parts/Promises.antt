@@ -1,8 +1,8 @@
 -- Promises and deferreds (the manual's `napi_create_promise`): a finite map from promises to their state and their reactions, and one from the deferreds that
 -- are not settled to their promises. A reaction is known by its ticket.
-use Rattle.std.specs.Prelude.{ℕ, ◌==◌, Bool, not, cond, List, [], ◌∷◌, ◌++◌, map, filter, Option, option_map}
+use Rattle.std.specs.Prelude.{ℕ, ◌==◌, Bool, not, cond, List, [], ◌∷◌, ◌++◌, map, filter, find, Option, option_map}
 use Rattle.std.specs.Option.{unwrap_or}
-use Rattle.napi_types.specs.parts.Book.{Book, Registration, made_due, moved, with_hint, changed_where}
+use Rattle.napi_types.specs.parts.Book.{Book, Registration, is_registered, made_due, moved, with_hint, changed_where}
 use Rattle.napi_types.specs.plain.Lists.{found, has_number, is_empty, with_record, with_number}
 
 -- a promise: its state, which is 0 while it is pending, 1 resolved and 2 rejected, and the tickets of its reactions that have not ended, in the order of adding
@@ -35,6 +35,10 @@ promise_at p v = found (λ r. r.value) v p.promises
 abbrev pub promise_state : Promises → ℕ → Option ℕ
 promise_state p v = option_map (λ r. r.state) (promise_at p v)
 
+-- the state that a reaction is given which is added now; a value that is no promise is refused before it is read so
+abbrev pub state_of : Promises → ℕ → ℕ
+state_of p v = unwrap_or (promise_state p v) 0
+
 -- the tickets of its reactions; a value that is no promise has none
 abbrev pub reactions_of : Promises → ℕ → List ℕ
 reactions_of p v = unwrap_or (option_map (λ r. r.reactions) (promise_at p v)) []
@@ -42,6 +46,10 @@ reactions_of p v = unwrap_or (option_map (λ r. r.reactions) (promise_at p v)) [
 -- a ticket is that of a reaction of this promise that has not ended
 abbrev pub is_reaction_of : Promises → ℕ → ℕ → Bool
 is_reaction_of p v ticket = has_number ticket (reactions_of p v)
+
+-- the promise of a reaction that has not ended
+abbrev pub reaction_promise : Promises → ℕ → Option ℕ
+reaction_promise p ticket = option_map (λ r. r.value) (find (λ r. has_number ticket r.reactions) p.promises)
 
 -- the promise of a deferred that is not settled
 abbrev pub deferred_promise : Promises → ℕ → Option ℕ
@@ -88,9 +96,9 @@ abbrev pub promises_left : (ℕ → Bool) → Promises → Promises
 promises_left gone p = record p { promises = filter (λ r. not (gone r.value)) p.promises; deferreds = filter (λ d. not (gone d.promise)) p.deferreds }
 
 -- IN THE BOOK
--- a reaction whose promise is settled is given the new state as its hint, and then falls due
+-- a reaction that is registered where its promise is settled is given the new state as its hint, and then falls due
 abbrev pub made_settled : ℕ → Registration → Registration
-made_settled state r = moved made_due (with_hint state r)
+made_settled state r = cond (is_registered r.state) (moved made_due (with_hint state r)) r
 
 -- and so is each of these
 abbrev pub reactions_settled : ℕ → List ℕ → Book → Book

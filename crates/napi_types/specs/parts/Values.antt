@@ -1,6 +1,6 @@
 -- The value graph: a finite map from creation numbers to values.
 use Rattle.std.specs.Prelude.{ℕ, ◌==◌, true, false, cond, List, [], ◌∷◌, ◌++◌, map, filter_map, Option, Some, None, option_map, not, filter}
-use Rattle.std.specs.Option.{unwrap_or, option_to_list}
+use Rattle.std.specs.Option.{unwrap_or, option_and_then, option_to_list}
 use Rattle.napi_types.specs.declared.body.Body.{Body}
 use Rattle.napi_types.specs.declared.body.Body.TheVariants as body
 use Rattle.napi_types.specs.plain.Lists.{found, has_number}
@@ -58,6 +58,10 @@ properties_of vs n = unwrap_or (option_map (λ v. v.properties) (value_at vs n))
 
 abbrev pub elements_of : List Value → ℕ → List (Option ℕ)
 elements_of vs n = unwrap_or (option_map (λ v. v.elements) (value_at vs n)) []
+
+-- its link, where it has one
+abbrev pub link_of : List Value → ℕ → Option ℕ
+link_of vs n = option_and_then (λ v. v.link) (value_at vs n)
 
 -- the values that a value's properties and elements name, and its link: what it reaches in one step
 abbrev pub children : Value → List ℕ

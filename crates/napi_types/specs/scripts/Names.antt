@@ -80,6 +80,8 @@ call_name call.CreatePromise = codes "create_promise"
 call_name (call.ResolveDeferred _ _) = codes "resolve_deferred"
 call_name (call.RejectDeferred _ _) = codes "reject_deferred"
 call_name (call.IsPromise _) = codes "is_promise"
+call_name (call.AddReaction _ _ _) = codes "add_reaction"
+call_name call.GetReactionValue = codes "get_reaction_value"
 call_name (call.CreateAsyncWork _ _ _) = codes "create_async_work"
 call_name (call.DeleteAsyncWork _) = codes "delete_async_work"
 call_name (call.CancelAsyncWork _) = codes "cancel_async_work"
@@ -139,6 +141,7 @@ cause_name cause.Complete = codes "complete"
 cause_name cause.Item = codes "item"
 cause_name cause.Torn = codes "torn"
 cause_name cause.Hook = codes "hook"
+cause_name cause.Reaction = codes "reaction"
 
 -- why the loop ended
 abbrev pub loop_end_name : LoopEnd → List ℕ

@@ -101,6 +101,8 @@ operation_ask (op.CreatePromise deferred w) rs = ask.Do call.CreatePromise
 operation_ask (op.ResolveDeferred deferred value) rs = ask.Do (call.ResolveDeferred (record { 0 = register_at rs deferred }) (handle_in rs value))
 operation_ask (op.RejectDeferred deferred value) rs = ask.Do (call.RejectDeferred (record { 0 = register_at rs deferred }) (handle_in rs value))
 operation_ask (op.IsPromise value w) rs = ask.Do (call.IsPromise (handle_in rs value))
+operation_ask (op.AddReaction promise entry payload) rs = ask.Do (call.AddReaction (handle_in rs promise) entry payload)
+operation_ask (op.GetReactionValue w) rs = ask.Do call.GetReactionValue
 operation_ask (op.CreateAsyncWork job entry payload w) rs = ask.Do (call.CreateAsyncWork job entry payload)
 operation_ask (op.DeleteAsyncWork work) rs = ask.Do (call.DeleteAsyncWork (record { 0 = register_at rs work }))
 operation_ask (op.CancelAsyncWork work) rs = ask.Do (call.CancelAsyncWork (record { 0 = register_at rs work }))
@@ -176,6 +178,7 @@ result_registers (op.GetInstanceData w) = singleton w
 result_registers (op.AddAsyncCleanupHook _ _ w) = singleton w
 result_registers (op.CreatePromise deferred w) = deferred ∷ singleton w
 result_registers (op.IsPromise _ w) = singleton w
+result_registers (op.GetReactionValue w) = singleton w
 result_registers (op.CreateAsyncWork _ _ _ w) = singleton w
 result_registers (op.CreateThreadsafeFunction _ _ _ _ _ _ w) = singleton w
 result_registers (op.GetThreadsafeFunctionContext _ w) = singleton w

@@ -35,7 +35,8 @@ abbrev pub operations : List Op
 operations = op.Exit ∷ op.GetUndefined 0 ∷ op.GetNull 0 ∷ op.GetGlobal 0 ∷ op.CreateObject 0 ∷ op.CreateArray 0 ∷ op.OpenHandleScope 0
     ∷ op.OpenEscapableHandleScope 0 ∷ op.IsExceptionPending 0 ∷ op.GetAndClearLastException 0 ∷ op.GetLastErrorInfo 0 ∷ op.GetInstanceData 0
     ∷ op.GetVersion 0 ∷ op.Collect 0 ∷ op.CloseHandleScope 0 ∷ op.CloseEscapableHandleScope 0 ∷ op.DeleteReference 0 ∷ op.Throw 0
-    ∷ op.RemoveAsyncCleanupHook 0 ∷ op.CreatePromise 0 0 ∷ op.ResolveDeferred 0 0 ∷ op.RejectDeferred 0 0 ∷ op.IsPromise 0 0 ∷ op.DeleteAsyncWork 0
+    ∷ op.RemoveAsyncCleanupHook 0 ∷ op.CreatePromise 0 0 ∷ op.ResolveDeferred 0 0 ∷ op.RejectDeferred 0 0 ∷ op.IsPromise 0 0
+    ∷ op.AddReaction 0 0 0 ∷ op.GetReactionValue 0 ∷ op.DeleteAsyncWork 0
     ∷ op.CancelAsyncWork 0 ∷ op.QueueAsyncWork 0 ∷ op.AcquireThreadsafeFunction 0 ∷ op.RefThreadsafeFunction 0 ∷ op.UnrefThreadsafeFunction 0
     ∷ op.Return None ∷ op.Typeof 0 0 ∷ op.IsArray 0 0 ∷ op.IsError 0 0 ∷ op.GetValueInt64 0 0 ∷ op.GetValueBigintInt64 0 0 ∷ op.GetValueBool 0 0
     ∷ op.GetValueStringUtf8 0 0 ∷ op.GetValueExternal 0 0 ∷ op.GetArrayLength 0 0 ∷ op.GetPropertyNames 0 0 ∷ op.ReferenceRef 0 0 ∷ op.ReferenceUnref 0 0
@@ -91,6 +92,7 @@ with_register (op.CloseEscapableHandleScope _) x = Some (op.CloseEscapableHandle
 with_register (op.DeleteReference _) x = Some (op.DeleteReference x)
 with_register (op.Throw _) x = Some (op.Throw x)
 with_register (op.RemoveAsyncCleanupHook _) x = Some (op.RemoveAsyncCleanupHook x)
+with_register (op.GetReactionValue _) x = Some (op.GetReactionValue x)
 with_register (op.DeleteAsyncWork _) x = Some (op.DeleteAsyncWork x)
 with_register (op.CancelAsyncWork _) x = Some (op.CancelAsyncWork x)
 with_register (op.QueueAsyncWork _) x = Some (op.QueueAsyncWork x)
@@ -155,6 +157,7 @@ with_three_arguments entries (op.CreateReference _ _ _) a b c = from_three op.Cr
 with_three_arguments entries (op.TypeTagObject _ _ _) a b c = from_three op.TypeTagObject (register a) (whole b) (whole c)
 with_three_arguments entries (op.SetInstanceData _ _ _) a b c = from_three op.SetInstanceData (whole a) (entry_or_none entries b) (whole c)
 with_three_arguments entries (op.AddAsyncCleanupHook _ _ _) a b c = from_three op.AddAsyncCleanupHook (entry_number entries a) (whole b) (register c)
+with_three_arguments entries (op.AddReaction _ _ _) a b c = from_three op.AddReaction (register a) (entry_number entries b) (whole c)
 with_three_arguments entries (op.CallThreadsafeFunction _ _ _) a b c = from_three op.CallThreadsafeFunction (register a) (whole b) (mode_number c)
 with_three_arguments entries _ a b c = None
 

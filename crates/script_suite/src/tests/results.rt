@@ -8,7 +8,7 @@ use std::alloc::Global;
 use std::process::Abort;
 
 /// What is issued, numbers and flags, texts, ends and cuts, kinds, duties, and begins of frames, without duties and with.
-const RESULTS: [Out; 51] = [
+const RESULTS: [Out; 52] = [
     Out::Nothing,
     Out::Handle(HandleId(7)),
     Out::NoHandle,
@@ -56,6 +56,7 @@ const RESULTS: [Out; 51] = [
     Out::Begin(Cause::Item, 1, 20, None),
     Out::Begin(Cause::Torn, 1, 20, None),
     Out::Begin(Cause::Hook, 1, 20, None),
+    Out::Begin(Cause::Reaction, 1, 20, None),
     Out::Begin(Cause::Hook, 3, 12, Some(Duty::Ticket(Ticket(4)))),
     Out::Begin(Cause::Hook, 3, 12, Some(Duty::Work(4))),
     Out::Begin(Cause::Hook, 3, 12, Some(Duty::Item(TsfnId(2), 7))),
@@ -110,10 +111,11 @@ const LINES: &str = r#"1 env collect 0 -
 45 env collect 0 item:1.20
 46 env collect 0 torn:1.20
 47 env collect 0 hook:1.20
-48 env collect 0 hook:3.12:#4
-49 env collect 0 hook:3.12:j4
-50 env collect 0 hook:3.12:f2.7
-51 env collect 0 hook:3.12:f2
+48 env collect 0 reaction:1.20
+49 env collect 0 hook:3.12:#4
+50 env collect 0 hook:3.12:j4
+51 env collect 0 hook:3.12:f2.7
+52 env collect 0 hook:3.12:f2
 "#;
 
 /// Calls of `collect` with these results.
