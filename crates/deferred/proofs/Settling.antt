@@ -1,27 +1,79 @@
 -- Reactions that get a state and fall due, one after another.
-use Rattle.std.proofs.Common.{◌≡◌, ◌∙◌, ℕ, zero, suc, ◌+◌, ◌<◌, ◌≤◌, ◌==◌, ◌||◌, Bool, true, false, cond, List, [], ◌∷◌, ◌++◌, length, get_or, take, add-one, refl, ap, sym, arith}
-use Rattle.std.specs.List.{All}
-use Rattle.std.proofs.lemmas.Bool.{or_parts}
+use Rattle.std.proofs.Common.{◌≡◌, ◌∙◌, ℕ, zero, suc, ◌+◌, ◌<◌, ◌≤◌, ◌==◌, ◌||◌, Bool, true, false, cond, List, [], ◌∷◌, ◌++◌, length, get_or, take, slice_get, Some, add-one, refl, ap, sym, arith}
 use Rattle.std.proofs.Math.Seq.{take-suc}
 use Rattle.napi_types.specs.plain.Lists.{has_number}
-use Rattle.napi_types.specs.parts.Book.{Book, Registration, TicketState, Registered, is_registered, is_at, made_due, moved, moved_at, with_hint, changed_from, changed_at, new_ticket}
+use Rattle.napi_types.specs.parts.Book.{Book, Registration, TicketState, Registered, Due, Begun, Ended, Withdrawn, is_registered, is_at, made_due, moved, moved_at, with_hint, changed_from, changed_at, registration_at, new_ticket}
 use Rattle.napi_types.specs.parts.Promises.{made_settled, reactions_settled}
-use Rattle.napi_types.proofs.plain.Found.{turned}
-use Rattle.napi_types.proofs.parts.Moved.{IsUnder, PassesTest, under-ticket, registration-within, is_at-changed_where}
+use Rattle.napi_types.proofs.plain.Found.{same-tells, turned}
+use Rattle.napi_types.proofs.parts.Moved.{IsUnder, PassesTest, under-ticket, registration-within, at-state}
 use Rattle.napi_types.proofs.parts.Moves.{changed_where-both}
-use Rattle.deferred.specs.PromiseRows.{AreOnce}
 use Rattle.deferred.proofs.Numbers.{has-behind}
 
--- one reaction: its hint, and then it falls due
-pub settled-both : (state n : ℕ) (book : Book) → moved_at made_due n (changed_at (with_hint state) n book) ≡ changed_at (made_settled state) n book
-settled-both state n book = changed_where-both (with_hint state) (moved made_due) (λ m. m == n) book
+-- ONE REACTION
+-- a change of the registration of one ticket is another one, where the two make the same of it
+from-there : (f g : Registration → Registration) (k n : ℕ) (rs : List Registration)
+    → ((p : ℕ) (r : Registration) → slice_get rs p ≡ Some r → (k + p == n) ≡ true → f r ≡ g r)
+    → changed_from k f (λ m. m == n) rs ≡ changed_from k g (λ m. m == n) rs
+from-there f g k n [] each = refl
+from-there f g k n (r ∷ rs) each =
+    ap (λ q. q ∷ changed_from (suc k) f (λ m. m == n) rs) (by (k == n) refl)
+    ∙ ap (λ qs. cond (k == n) (g r) r ∷ qs)
+    (from-there f g (suc k) n rs (λ p q there same. each (suc p) q there (ap (λ m. m == n) (next k p) ∙ same)))
+  where
+    next : (k p : ℕ) → k + suc p ≡ suc k + p
+    next k p = omega arith
 
-due-due : (s : TicketState) → made_due (made_due s) ≡ made_due s
-due-due Registered = refl
-due-due _ = refl
+    last : (k : ℕ) → k + 0 ≡ k
+    last k = omega arith
+
+    by : (b : Bool) → (k == n) ≡ b → cond b (f r) r ≡ cond b (g r) r
+    by true same = each 0 r refl (ap (λ m. m == n) (last k) ∙ same)
+    by false other = refl
+
+same-there : (f g : Registration → Registration) (n : ℕ) (book : Book) → ((r : Registration) → registration_at book n ≡ Some r → f r ≡ g r)
+    → changed_at f n book ≡ changed_at g n book
+same-there f g n book each =
+    from-there f g 1 n book (λ p r there same. each r (ap (registration_at book) (sym (same-tells (1 + p) n same) ∙ first p) ∙ there))
+  where
+    first : (p : ℕ) → 1 + p ≡ suc p
+    first p = omega arith
+
+from-itself : (n k : ℕ) (rs : List Registration) → changed_from k (λ r. r) (λ m. m == n) rs ≡ rs
+from-itself n k [] = refl
+from-itself n k (r ∷ rs) = ap (λ q. q ∷ changed_from (suc k) (λ x. x) (λ m. m == n) rs) (by (k == n)) ∙ ap (λ qs. r ∷ qs) (from-itself n (suc k) rs)
+  where
+    by : (b : Bool) → cond b r r ≡ r
+    by true = refl
+    by false = refl
+
+-- one that is registered gets its hint, and then falls due
+pub settled-registered : (state n : ℕ) (book : Book) → is_at is_registered book n ≡ true
+    → moved_at made_due n (changed_at (with_hint state) n book) ≡ changed_at (made_settled state) n book
+settled-registered state n book is =
+    changed_where-both (with_hint state) (moved made_due) (λ m. m == n) book
+    ∙ same-there (λ r. moved made_due (with_hint state r)) (made_settled state) n book
+    (λ r there. sym (ap (λ b. cond b (moved made_due (with_hint state r)) r) (sym (at-state is_registered book n r there) ∙ is)))
+
+-- and one that is not stays as it is
+pub settled-unregistered : (state n : ℕ) (book : Book) → is_at is_registered book n ≡ false → book ≡ changed_at (made_settled state) n book
+settled-unregistered state n book is =
+    sym
+    (same-there (made_settled state) (λ r. r) n book
+    (λ r there. ap (λ b. cond b (moved made_due (with_hint state r)) r) (sym (at-state is_registered book n r there) ∙ is)) ∙ from-itself n 1 book)
+
+unregistered : (s : TicketState) → is_registered (made_due s) ≡ false
+unregistered Registered = refl
+unregistered Due = refl
+unregistered Begun = refl
+unregistered Ended = refl
+unregistered Withdrawn = refl
 
 twice : (state : ℕ) (r : Registration) → made_settled state (made_settled state r) ≡ made_settled state r
-twice state r = ap (λ s. record r { hint = state; state = s }) (due-due r.state)
+twice state r = by (is_registered r.state) refl
+  where
+    by : (b : Bool) → is_registered r.state ≡ b → made_settled state (cond b (moved made_due (with_hint state r)) r) ≡ cond b (moved made_due (with_hint state r)) r
+    by true is = ap (λ b. cond b (moved made_due (with_hint state (moved made_due (with_hint state r)))) (moved made_due (with_hint state r))) (unregistered r.state)
+    by false is = ap (λ b. cond b (moved made_due (with_hint state r)) r) is
 
 from-from : (state k : ℕ) (p q : ℕ → Bool) (rs : List Registration)
     → changed_from k (made_settled state) q (changed_from k (made_settled state) p rs) ≡ changed_from k (made_settled state) (λ m. p m || q m) rs
@@ -59,30 +111,9 @@ settled-more state n ns book =
     ∙ from-same state 1 (λ m. has_number m ns || (m == n)) (λ m. has_number m (ns ++ n ∷ [])) book
     (λ m. ap (λ b. has_number m ns || b) (turned m n) ∙ sym (has-behind m n ns))
 
--- one that is not among them is registered as before
-pub registered-still : (state n : ℕ) (ns : List ℕ) (book : Book) → has_number n ns ≡ false → is_at is_registered book n ≡ true
-    → is_at is_registered (reactions_settled state ns book) n ≡ true
-registered-still state n ns book absent is =
-    let under : IsUnder (PassesTest is_registered) book n = under-ticket is_registered book n is in
-    is_at-changed_where is_registered (made_settled state) (λ m. has_number m ns) book n under.registration under.there
-    ∙ ap (λ b. is_registered (cond b (made_settled state under.registration) under.registration).state) absent ∙ under.holds
-
 -- PLACES
 pub take-next : (ns : List ℕ) (i : ℕ) → i < length ns → take (i + 1) ns ≡ take i ns ++ get_or ns i 0 ∷ []
 take-next ns i within = rw add-one (take-suc ns i 0 within)
-
-apart-of : (m : ℕ) (ns : List ℕ) (i : ℕ) → has_number m ns ≡ false → i < length ns → (m == get_or ns i 0) ≡ false
-apart-of m [] i absent within = absurd (omega (arith, within))
-apart-of m (n ∷ ns) zero absent within = turned m n ∙ (or_parts (n == m) (has_number m ns) absent).0
-apart-of m (n ∷ ns) (suc i) absent within = apart-of m ns i (or_parts (n == m) (has_number m ns) absent).1 (omega (arith, within))
-
--- a ticket does not stand at an earlier place
-pub earlier-apart : (ns : List ℕ) (i : ℕ) → AreOnce ns → i < length ns → has_number (get_or ns i 0) (take i ns) ≡ false
-earlier-apart [] i once within = absurd (omega (arith, within))
-earlier-apart (n ∷ ns) zero once within = refl
-earlier-apart (n ∷ ns) (suc i) once within =
-    let inside : i < length ns = omega (arith, within) in
-    ap (λ b. b || has_number (get_or ns i 0) (take i ns)) (apart-of n ns i once.0 inside) ∙ earlier-apart ns i once.1 inside
 
 -- a registered ticket was given
 pub given-registered : (book : Book) (n : ℕ) → is_at is_registered book n ≡ true → (1 ≤ n) × (n ≤ length book)
@@ -97,14 +128,6 @@ place-read : (ns : List ℕ) (i x : ℕ) → i < length ns → x ≡ get_or ns i
 place-read [] i x within here = absurd (omega (arith, within))
 place-read (n ∷ ns) zero x within here = here
 place-read (n ∷ ns) (suc i) x within here = place-read ns i x (omega (arith, within)) here
-
--- it is registered still
-pub next-registered : (state : ℕ) (ns : List ℕ) (i x : ℕ) (book now : Book) → AreOnce ns → All (λ n. is_at is_registered book n ≡ true) ns
-    → now ≡ reactions_settled state (take i ns) book → i < length ns → x ≡ get_or ns i x → is_at is_registered now x ≡ true
-next-registered state ns i x book now once registered settled within here =
-    let absent : has_number x (take i ns) ≡ false = ap (λ k. has_number k (take i ns)) (place-read ns i x within here) ∙ earlier-apart ns i once within in
-    ap (λ b. is_at is_registered b x) settled
-    ∙ registered-still state x (take i ns) book absent (ap (is_at is_registered book) here ∙ registered i x within)
 
 -- and then one more is settled
 pub next-settled : (state : ℕ) (ns : List ℕ) (i x : ℕ) (book now after : Book) → now ≡ reactions_settled state (take i ns) book

@@ -1,6 +1,6 @@
 -- What the three tables stand for, and what a change of them makes of it.
-use Rattle.std.proofs.Common.{◌≡◌, ◌∙◌, ℕ, suc, ◌+◌, ◌==◌, nat_eq, ◌||◌, Bool, true, false, not, cond, List, [], ◌∷◌, ◌++◌, map, filter, length, Option, Some, None, option_map, is_some, IsSome, IfSome, OnOk, OnErr, Result, Ok, Err, refl, ap, sym, subst, arith, true≢false}
-use Rattle.std.specs.List.{list_any, All, IsDistinct}
+use Rattle.std.proofs.Common.{◌≡◌, ◌∙◌, ℕ, suc, ◌+◌, ◌==◌, nat_eq, ◌||◌, Bool, true, false, not, cond, List, [], ◌∷◌, ◌++◌, map, filter, length, Option, Some, None, option_map, is_some, IsSome, OnOk, OnErr, Result, Ok, Err, refl, ap, sym, subst, arith, true≢false}
+use Rattle.std.specs.List.{list_any, IsDistinct}
 use Rattle.std.specs.Cmp.{IsEquivalence}
 use Rattle.std.specs.Map.{lookup, keys_of}
 use Rattle.std.specs.Option.{option_and_then, unwrap_or}
@@ -621,12 +621,6 @@ module _ (rows : List (ℕ × PromiseRow)) (ds ts : List (ℕ × ℕ)) (made : �
     pub never-none : (ts' : List (ℕ × ℕ)) (n v : ℕ) → ((m : ℕ) → lookup (nat_eq m) ts' ≡ lookup (nat_eq m) ts) → is_some (lookup (nat_eq n) ts') ≡ false → is_reaction_of p v n ≡ true → ⊥
     never-none ts' n v same is has =
         let some : None ≡ Some v = (promise-of rows ds ts made p view tied n None (sym (kept-none ts' n same is)) v).1 has in cc
-
-    -- each reaction of the promise of a deferred is registered
-    pub all-registered : (P : ℕ → Type 0) (n v : ℕ) → lookup (nat_eq n) ds ≡ Some v → IfSome (deferred_promise p n) (λ w. All P (reactions_of p w)) → All P (reactions_in (row_at v rows))
-    all-registered P n v some holds =
-        let told : deferred_promise p n ≡ Some v = deferred-of rows ds ts made p view n (Some v) (sym some) in
-        subst (All P) (ap (λ q. reactions_of q v) (sym view) ∙ read-reactions rows ds made v) (subst (λ o. IfSome o (λ w. All P (reactions_of p w))) told holds)
 
 pub fresh-of : (rows : List (ℕ × PromiseRow)) (ds : List (ℕ × ℕ)) (made : ℕ) (p : Promises) → promises_of rows ds made ≡ p → has_number (made + 1) (0 ∷ p.issued) ≡ false
 fresh-of rows ds made p view =

@@ -1,10 +1,8 @@
 //! Promises by their values, deferreds by their numbers, and reactions by their tickets.
 ghost use Rattle.std.specs.Prelude.{◌≡◌, ◌≤◌, ◌<◌, ◌↔◌, ◌^◌, ◌∷◌, ◌++◌, ℕ, map, Some, None, true, false, IfOk, IfSome, OnOk, OnErr, IsSome, option_map, length, is_none};
-ghost use Rattle.std.specs.List.{All};
 ghost use Rattle.std.specs.Result.{result_err};
 ghost use Rattle.napi_types.specs.declared.status.Status.TheVariants as status;
 ghost use Rattle.napi_types.specs.plain.Lists.{has_number, HaveSameNumbers, when};
-ghost use Rattle.napi_types.specs.parts.Book.{is_registered, is_at};
 ghost use Rattle.napi_types.specs.parts.Promises.{no_promises, promise_at, promise_state, reactions_of, is_reaction_of, deferred_promise, promise_roots, with_promise, with_settled, with_reaction, without_reaction, without_promise, reactions_settled};
 ghost use Rattle.deferred.specs.KeptPromises.{AreMaps};
 
@@ -123,15 +121,12 @@ impl Deferreds {
     }
 
     /// Settles a deferred: the manual's `napi_resolve_deferred` with the state 1, and `napi_reject_deferred` with 2. Its promise has
-    /// the new state, each reaction of it gets the state as its hint and falls due, and the deferred is no more. It answers with
-    /// the promise. Where there is such a deferred, each reaction of its promise is registered in the book and not due. Refused with 1
-    /// exactly where the deferred is unknown or settled.
+    /// the new state, each reaction of it that is registered in the book gets the state as its hint and falls due, and the deferred is no
+    /// more. It answers with the promise. Refused with 1 exactly where the deferred is unknown or settled.
     ///
     /// In time linear in how many reactions the promise has, times the logarithm of how many tickets are then due. It takes no memory.
     pub fn settle(&mut self, id: DeferredId, state: u8, book: &mut Book) -> Result<ValueId, Status>
         requires state { (1 ≤ state) × (state ≤ 2) }
-        requires registered { IfSome (deferred_promise self.old.promises id.0)
-            (λ v. All (λ n. is_at is_registered book.old.book n ≡ true) (reactions_of self.old.promises v)) }
         ensures refusal { result_err result ≡ when (is_none (deferred_promise self.old.promises id.0)) status.InvalidArg }
         ensures promise { IfOk result (λ v. deferred_promise self.old.promises id.0 ≡ Some v.0) }
         ensures settled { IfOk result (λ v. self.new.promises ≡ with_settled id.0 v.0 state self.old.promises) }

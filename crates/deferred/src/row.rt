@@ -1,10 +1,9 @@
 //! One promise, and its reactions.
 ghost use Rattle.std.specs.Prelude.{◌≡◌, ◌==◌, ◌≤◌, ◌∷◌, true, not, filter, drop};
-ghost use Rattle.std.specs.List.{All};
 ghost use Rattle.std.specs.Map.{lookup};
 ghost use Rattle.std.specs.Prelude.{nat_eq, ℕ, None, cond};
 ghost use Rattle.napi_types.specs.plain.Lists.{has_number};
-ghost use Rattle.napi_types.specs.parts.Book.{is_registered, is_at, changed_at};
+ghost use Rattle.napi_types.specs.parts.Book.{changed_at};
 ghost use Rattle.napi_types.specs.parts.Promises.{reactions_settled, made_settled};
 ghost use Rattle.deferred.specs.PromiseRows.{AreOnce, row_of, is_root_row};
 
@@ -58,10 +57,8 @@ fn without(reactions: &mut VecDeque<u64>, ticket: u64)
     reactions.retain(|other| *other != ticket);
 }
 
-/// Each of these reactions gets the state as its hint, and falls due.
+/// Each of these reactions that is registered gets the state as its hint, and falls due.
 pub(crate) fn settle_all(reactions: &VecDeque<u64>, state: u8, book: &mut Book)
-    requires once { AreOnce reactions.now.items }
-    requires registered { All (λ n. is_at is_registered book.old.book n ≡ true) reactions.now.items }
     ensures settled { book.new.book ≡ reactions_settled state reactions.now.items book.old.book }
     ensures spare { book.old.spare ≤ book.new.spare }
 {
@@ -70,14 +67,15 @@ pub(crate) fn settle_all(reactions: &VecDeque<u64>, state: u8, book: &mut Book)
     }
 }
 
-/// One reaction gets the state as its hint, and falls due.
+/// One reaction, where it is registered, gets the state as its hint, and falls due.
 fn settle_one(ticket: Ticket, state: u8, book: &mut Book)
-    requires { is_at is_registered book.old.book ticket.0 ≡ true }
     ensures settled { book.new.book ≡ changed_at (made_settled state) ticket.0 book.old.book }
     ensures spare { book.old.spare ≤ book.new.spare }
 {
-    book.set_hint(ticket, state as u64);
-    book.make_due(ticket);
+    if book.is_registered(ticket) {
+        book.set_hint(ticket, state as u64);
+        book.make_due(ticket);
+    }
 }
 
 /// No reaction of these is kept under its ticket any more.

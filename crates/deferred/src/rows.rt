@@ -1,10 +1,9 @@
 //! The table of promises, that of the deferreds that are not settled, and that of reactions, read and changed together.
 ghost use Rattle.std.specs.Prelude.{◌≡◌, ◌≤◌, ◌<◌, ◌++◌, [], ◌∷◌, ℕ, nat_eq, map, true, None, Some, cond, option_map, IsSome, OnOk, OnErr};
 ghost use Rattle.std.specs.HashMap.{spare};
-ghost use Rattle.std.specs.List.{All, IsDistinct};
+ghost use Rattle.std.specs.List.{IsDistinct};
 ghost use Rattle.std.specs.Map.{lookup, keys_of};
 ghost use Rattle.napi_types.specs.plain.Lists.{has_number};
-ghost use Rattle.napi_types.specs.parts.Book.{is_registered, is_at};
 ghost use Rattle.napi_types.specs.parts.Promises.{reactions_settled};
 ghost use Rattle.deferred.specs.PromiseRows.{row_at, row_of, is_deferred_of, reactions_in, AreOnce, settled_row, added_row, taken_row, root_values, is_root_row};
 
@@ -57,16 +56,15 @@ pub(crate) fn put_number(numbers: &mut HashMap<u64, u64>, number: u64, promise: 
     };
 }
 
-/// Settles a promise: it has the new state and no deferred, and its reactions get the state as their hint and fall due.
+/// Settles a promise: it has the new state and no deferred, and those of its reactions that are registered get the state as their hint and
+/// fall due.
 pub(crate) fn settle(
     promises: &mut HashMap<u64, PromiseRow>,
     value: u64,
     state: u8,
     book: &mut Book,
 )
-    requires there { IsSome (row_at value promises.old.entries) }
-    requires once { AreOnce (reactions_in (row_at value promises.old.entries)) }
-    requires registered { All (λ n. is_at is_registered book.old.book n ≡ true) (reactions_in (row_at value promises.old.entries)) }
+    requires { IsSome (row_at value promises.old.entries) }
     ensures rows { (w : ℕ) → row_at w promises.new.entries
         ≡ cond (nat_eq value w) (option_map (settled_row state) (row_at value promises.old.entries)) (row_at w promises.old.entries) }
     ensures settled { book.new.book ≡ reactions_settled state (reactions_in (row_at value promises.old.entries)) book.old.book }

@@ -1,5 +1,5 @@
 -- What holds of every registry stays so.
-use Rattle.std.proofs.Common.{◌≡◌, ◌≢◌, ◌∙◌, ℕ, ◌≤◌, ◌==◌, Bool, true, false, not, List, [], ◌∷◌, length, get_or, Option, Some, None, option_map, IfSome, refl, ap, sym, subst, arith}
+use Rattle.std.proofs.Common.{◌≡◌, ◌≢◌, ◌∙◌, ℕ, ◌≤◌, ◌==◌, Bool, true, false, not, cond, List, [], ◌∷◌, length, get_or, Option, Some, None, option_map, IfSome, refl, ap, sym, subst, arith}
 use Rattle.std.specs.List.{All}
 use Rattle.std.proofs.lemmas.Bool.{or_from}
 use Rattle.std.proofs.lemmas.Option.{same_Some}
@@ -8,11 +8,11 @@ use Rattle.napi_types.specs.declared.duties.DueInfo.{DueInfo}
 use Rattle.napi_types.specs.declared.entry.Cause.TheVariants as cause
 use Rattle.napi_types.specs.declared.entry.Duty.{Duty}
 use Rattle.napi_types.specs.declared.entry.Duty.TheVariants as duty
-use Rattle.napi_types.specs.plain.Lists.{has}
+use Rattle.napi_types.specs.plain.Lists.{has, has_number}
 use Rattle.napi_types.specs.parts.Attachments.{Wrapped, Tagged, Attached, Attachments, no_attachments, with_wrap, without_wrap, with_tag, attached_where, left_on, tickets_where}
-use Rattle.napi_types.specs.parts.Book.{Book, Registration, TicketState, is_registered, is_at, made_withdrawn, made_begun, made_ended, changed_where, moved, new_ticket, registration_at, due_info, with_registration}
+use Rattle.napi_types.specs.parts.Book.{Book, Registration, TicketState, is_registered, is_at, made_due, made_withdrawn, made_begun, made_ended, changed_where, moved, with_hint, new_ticket, registration_at, due_info, with_registration}
 use Rattle.napi_types.specs.parts.Hooks.{Hook}
-use Rattle.napi_types.specs.parts.Promises.{Promises}
+use Rattle.napi_types.specs.parts.Promises.{made_settled, reactions_settled}
 use Rattle.napi_types.specs.environment.Ends.{duty_ended}
 use Rattle.napi_types.specs.environment.ExternalCalls.{attached_if}
 use Rattle.napi_types.proofs.plain.Found.{apart-below, as_map-with_record, as_map-kept}
@@ -23,7 +23,7 @@ use Rattle.napi_types.proofs.parts.Moved.{IsUnder, PassesTest, under-ticket}
 use Rattle.napi_types.proofs.environment.Registrations.{registered-holds}
 use Rattle.finalizer_queue.specs.KeptBook.{LowestBegins}
 use Rattle.wrap_tag.specs.Wraps.{AreGiven}
-use Rattle.env_registry.specs.KeptRegistry.{IsGiven, IsKept, AreBare, IsKeptRegistry}
+use Rattle.env_registry.specs.KeptRegistry.{IsGiven, IsKept}
 use Rattle.env_registry.specs.Registering.{registration_of, ticket_for, with_registration_if, withdrawn_if}
 use Rattle.env_registry.specs.declared.finalizer.Finalizer.{Finalizer}
 use Rattle.env_registry.proofs.Withdrawn.{longer, given-new}
@@ -35,10 +35,6 @@ kept-new = record {
   given = All-nil (λ (t : Attached). IsGiven [] t.ticket);
   uncalled = All-nil (λ (r : Registration). r.cause ≢ cause.Call);
 }
-
--- what is attached, and the promises
-pub kept-all : {a : Attachments} {book : Book} {p : Promises} → IsKept a book → AreBare p → IsKeptRegistry a book p
-kept-all attached bare = record { attached = attached; bare = bare }
 
 -- THE BOOK CHANGES
 given-longer : (book more : Book) → length book ≤ length more → (o : Option ℕ) → IfSome o (IsGiven book) → IfSome o (IsGiven more)
@@ -77,6 +73,19 @@ kept-ended a book (duty.Ticket t) k = kept-moved a book made_ended (λ m. m == t
 kept-ended a book (duty.Work n) k = k
 kept-ended a book (duty.Item f n) k = k
 kept-ended a book (duty.Function f) k = k
+
+-- reactions are settled
+settled-uncalled : (state : ℕ) (r : Registration) → r.cause ≢ cause.Call → (made_settled state r).cause ≢ cause.Call
+settled-uncalled state r uncalled = by (is_registered r.state)
+  where
+    by : (b : Bool) → (cond b (moved made_due (with_hint state r)) r).cause ≢ cause.Call
+    by true = uncalled
+    by false = uncalled
+
+pub kept-settled : (a : Attachments) (book : Book) (state : ℕ) (tickets : List ℕ) → IsKept a book → IsKept a (reactions_settled state tickets book)
+kept-settled a book state tickets k =
+    kept-longer a book (reactions_settled state tickets book) (omega (arith, length-changed_where (made_settled state) (λ n. has_number n tickets) book))
+    (All-changed_where (λ (r : Registration). r.cause ≢ cause.Call) (made_settled state) (settled-uncalled state) (λ n. has_number n tickets) book k.uncalled) k
 
 -- WHAT IS ATTACHED CHANGES
 -- a wrap with its finalizer, where it has one

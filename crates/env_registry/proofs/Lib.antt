@@ -1,3 +1,4 @@
 pub mod Keeping
-pub mod Settled
+pub mod SettledBooks
+pub mod FreedPromises
 pub mod Withdrawn

@@ -5,7 +5,7 @@ use Rattle.napi_types.specs.declared.entry.Cause.TheVariants as cause
 use Rattle.napi_types.specs.plain.Lists.{as_map}
 use Rattle.napi_types.specs.parts.Attachments.{Attachments, no_attachments}
 use Rattle.napi_types.specs.parts.Book.{Book}
-use Rattle.napi_types.specs.parts.Promises.{Promises, no_promises}
+use Rattle.napi_types.specs.parts.Promises.{no_promises}
 use Rattle.napi_types.specs.environment.Registry.{Registry}
 
 -- the parts, and for how many attachments to values, for how many tickets and for how many promises more there is the memory
@@ -41,12 +41,3 @@ pub record IsKept (a : Attachments) (book : Book) : Type 0 where
   pub given_with_wraps : All (λ w. IfSome w.ticket (IsGiven book)) a.wraps
   pub given : All (λ t. IsGiven book t.ticket) a.tickets
   pub uncalled : All (λ r. r.cause ≢ cause.Call) book
-
--- no promise has a reaction
-abbrev pub AreBare : Promises → Type 0
-AreBare p = All (λ r. r.reactions ≡ []) p.promises
-
--- what holds of every registry
-pub record IsKeptRegistry (a : Attachments) (book : Book) (p : Promises) : Type 0 where
-  pub attached : IsKept a book
-  pub bare : AreBare p

@@ -76,7 +76,7 @@ impl Book {
         Ticket(self.rows.len() as u64 + 1)
     }
 
-    /// Registers a finalizer or a cleanup hook, and gives its ticket. Fewer than 2^62 were given before.
+    /// Registers a finalizer, a cleanup hook or a reaction, and gives its ticket. Fewer than 2^62 were given before.
     ///
     /// Constant time. It takes no memory: [`Book::reserve`] took it before.
     pub fn register(&mut self, duty: NewDuty) -> Ticket

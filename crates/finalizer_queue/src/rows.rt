@@ -6,7 +6,7 @@ ghost use Rattle.finalizer_queue.specs.TicketRows.{registration_of, row_registra
 use napi_types::{Cause, Due, DueInfo, Duty, Slip, Status, Ticket};
 use std::mem;
 
-/// What is registered: a finalizer or a cleanup hook.
+/// What is registered: a finalizer, a cleanup hook or a reaction.
 #[derive(Clone, Copy)]
 pub struct NewDuty {
     /// Why its frame will begin.

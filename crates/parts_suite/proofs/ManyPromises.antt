@@ -1,13 +1,12 @@
 -- What tests of promises need: that none has a reaction, or that each reaction is registered.
-use Rattle.std.proofs.Common.{◌≡◌, ◌↔◌, ◌∙◌, ℕ, ◌+◌, ◌==◌, ◌≤◌, Bool, true, false, not, cond, List, [], ◌∷◌, ◌++◌, length, map, filter, Option, Some, None, option_map, IsSome, IfSome, Result, Ok, Err, IfOk, OnOk, OnErr, refl, ap, sym, subst, arith}
+use Rattle.std.proofs.Common.{◌≡◌, ◌↔◌, ◌∙◌, ℕ, ◌+◌, ◌==◌, Bool, true, false, cond, List, [], ◌∷◌, ◌++◌, length, Option, Some, None, option_map, IsSome, Result, Ok, Err, IfOk, OnOk, OnErr, refl, ap, sym, subst}
 use Rattle.std.specs.List.{All}
 use Rattle.std.specs.Option.{unwrap_or}
 use Rattle.std.proofs.lemmas.List.Elements.{All-map, All-weaker, All-append, All-cons, All-nil}
-use Rattle.napi_types.specs.plain.Lists.{found, has_number}
 use Rattle.napi_types.specs.parts.Book.{Book, Registration, is_at, is_registered, new_ticket, with_registration}
-use Rattle.napi_types.specs.parts.Promises.{Promise, Promises, promise_at, reactions_of, is_reaction_of, promise_changed, with_promise, with_settled, with_reaction}
+use Rattle.napi_types.specs.parts.Promises.{Promise, Promises, promise_at, reactions_of, is_reaction_of, with_promise, with_settled, with_reaction}
 use Rattle.napi_types.proofs.plain.Found.{found-All, found-number, found-with_record, found-map, same-self}
-use Rattle.napi_types.proofs.plain.Maps.{All-with_record, length-with_record}
+use Rattle.napi_types.proofs.plain.Maps.{All-with_record}
 use Rattle.napi_types.proofs.parts.Moved.{IsUnder, PassesTest, under-ticket, at-state, registration_at-before, registration_at-new}
 
 -- NONE HAS A REACTION
@@ -32,12 +31,6 @@ bare-settled p n v state all =
     by : (r : Promise) (b : Bool) → IsBare r → IsBare (cond b (record r { state = state }) r)
     by r true bare = bare
     by r false bare = bare
-
--- so each reaction of the promise that a deferred settles is registered
-pub registered-bare : (p : Promises) (book : Book) (o : Option ℕ) → All IsBare p.promises → IfSome o (λ v. All (λ n. is_at is_registered book n ≡ true) (reactions_of p v))
-registered-bare p book None all = tt
-registered-bare p book (Some v) all =
-    subst (λ (ns : List ℕ). All (λ n. is_at is_registered book n ≡ true) ns) (sym (bare-none p v all)) (All-nil (λ n. is_at is_registered book n ≡ true))
 
 -- settled or refused, none has a reaction still
 pub settled-bare : {T E B : Type 0} (p q : Promises) (b d : B) (n state : ℕ) (value : T → ℕ) (r : Result T E) → IfOk r (λ v. q ≡ with_settled n (value v) state p)

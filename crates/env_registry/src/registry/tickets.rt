@@ -3,13 +3,14 @@ ghost use Rattle.std.specs.Prelude.{◌≡◌, ◌≢◌, ◌↔◌, [], true, S
 ghost use Rattle.std.specs.Option.{is_some};
 ghost use Rattle.napi_types.specs.parts.Book.{is_registered, is_begun, is_at, lowest_due, all_due};
 ghost use Rattle.napi_types.specs.parts.Hooks.{last_hook};
-ghost use Rattle.napi_types.specs.environment.Ends.{duty_ended};
+ghost use Rattle.napi_types.specs.environment.Ends.{duty_ended, reaction_ended};
 ghost use Rattle.finalizer_queue.specs.KeptBook.{ticket_number, LowestBegins};
 ghost use Rattle.env_registry.specs.Beginning.{LastHookBegins};
 
 use super::Registry;
+use deferred::Deferreds;
 use finalizer_queue::Book;
-use napi_types::{Begun, Cause, Due};
+use napi_types::{Begun, Cause, Due, Duty};
 
 impl Registry {
     /// Every ticket that is registered falls due.
@@ -62,14 +63,27 @@ impl Registry {
         Some(self.book.take_ticket(ticket))
     }
 
-    /// A ticket that has begun ends.
+    /// A ticket that has begun ends. Where it is that of a reaction, its promise no longer has it.
     ///
     /// It takes no memory.
     pub fn end_ticket(&mut self, begun: Begun)
         requires { is_at is_begun self.old.parts.book (ticket_number begun.duty) ≡ true }
-        ensures { self.new.parts ≡ record self.old.parts { book = duty_ended (Some begun.duty) self.old.parts.book } }
+        ensures { self.new.parts ≡ record self.old.parts {
+          book = duty_ended (Some begun.duty) self.old.parts.book;
+          promises = reaction_ended (Some begun.duty) self.old.parts.promises;
+        } }
     {
+        end_reaction(&mut self.promises, begun.info().duty);
         end(&mut self.book, begun);
+    }
+}
+
+/// A reaction whose frame ends has ended.
+fn end_reaction(promises: &mut Deferreds, duty: Duty)
+    ensures { promises.new.promises ≡ reaction_ended (Some duty) promises.old.promises }
+{
+    if let Duty::Ticket(ticket) = duty {
+        promises.ended(ticket);
     }
 }
 

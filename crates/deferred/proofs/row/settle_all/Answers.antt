@@ -1,16 +1,9 @@
 use Rattle.std.proofs.Common.{◌<◌, length, arith}
-use Rattle.deferred.proofs.Settling.{settled-none, next-registered, next-settled}
+use Rattle.deferred.proofs.Settling.{settled-none, next-settled}
 use Rattle.deferred.proofs.row.settle_all.Goals as goal
 
 pub loop-place-init : goal.loop-place-init
 loop-place-init c = record { settled = settled-none c.args.state c.args.book.now.book; spare = omega arith }
-
-pub settle_one-requires : goal.settle_one-requires
-settle_one-requires c =
-    let ns = c.args.reactions.now in
-    let within : c.loop-place.place < length ns.items = omega (arith, c.loop-place-test.true, c.len-place-end.ensures, ns.ok.0) in
-    next-registered c.args.state ns.items c.loop-place.place _ c.args.book.now.book c.loop-place.book.book c.requires.once c.requires.registered
-    c.loop-place.invariant.settled within c.index.ensures
 
 pub loop-place-preserved : goal.loop-place-preserved
 loop-place-preserved c =

@@ -1,22 +1,16 @@
-use Rattle.std.proofs.Common.{◌≡◌, ◌∙◌, [], None, Some, is_none, true, sym, ap}
+use Rattle.std.proofs.Common.{◌∙◌, [], None, Some, is_none, sym, ap}
 use Rattle.napi_types.specs.declared.status.Status.TheVariants as status
 use Rattle.napi_types.specs.plain.Lists.{when}
-use Rattle.napi_types.specs.parts.Book.{is_registered, is_at}
 use Rattle.napi_types.specs.parts.Promises.{with_settled, reactions_settled}
-use Rattle.deferred.proofs.Views.{seen, deferred-of, deferred-there, reactions-read, all-registered, settled-tied, settled-view}
+use Rattle.deferred.proofs.Views.{seen, deferred-of, deferred-there, reactions-read, settled-tied, settled-view}
 use Rattle.deferred.proofs.deferreds.Deferreds.settle.Goals as goal
 
 pub returns-in_default-clause-refusal : goal.returns-in_default-clause-refusal
 returns-in_default-clause-refusal c =
     sym (ap (λ o. when (is_none o) status.InvalidArg) (deferred-of _ _ [] _ _ (seen c.self.view_is) c.args.id.0 None (sym c.in_default.is ∙ c.take_number.ensures.promise)))
 
-pub settle-requires-clause-there : goal.settle-requires-clause-there
-settle-requires-clause-there c = deferred-there c.args.id.0 _ (c.self.invariant.promised c.args.id.0 c.in-Some.promise (sym c.take_number.ensures.promise ∙ c.in-Some.is))
-
-pub settle-requires-clause-registered : goal.settle-requires-clause-registered
-settle-requires-clause-registered c =
-    all-registered _ _ _ _ c.self.invariant _ (seen c.self.view_is) (λ n. is_at is_registered c.args.book.now.book n ≡ true) c.args.id.0 c.in-Some.promise
-    (sym c.take_number.ensures.promise ∙ c.in-Some.is) c.requires.registered
+pub settle-requires : goal.settle-requires
+settle-requires c = deferred-there c.args.id.0 _ (c.self.invariant.promised c.args.id.0 c.in-Some.promise (sym c.take_number.ensures.promise ∙ c.in-Some.is))
 
 pub invariant_of-self-2 : goal.invariant_of-self-2
 invariant_of-self-2 c =

@@ -1,21 +1,18 @@
-use Rattle.std.proofs.Common.{sym, subst}
 use Rattle.napi_types.specs.parts.Attachments.{left_on, is_attached_to}
 use Rattle.napi_types.specs.parts.Book.{made_due}
 use Rattle.wrap_tag.specs.Wraps.{is_one_of}
-use Rattle.env_registry.proofs.Keeping.{kept-all, given-freed, kept-left, kept-moved}
-use Rattle.env_registry.proofs.Settled.{bare-left}
-use Rattle.env_registry.specs.KeptRegistry.{AreBare}
+use Rattle.env_registry.proofs.Keeping.{given-freed, kept-left, kept-moved}
 use Rattle.env_registry.proofs.registry.Registry.gone_all.Goals as goal
 
 pub gone_all-requires : goal.gone_all-requires
 gone_all-requires c =
     let s = c.self.inside in
-    given-freed s.wraps.attachments s.book.book (is_one_of c.args.values.now) c.self.invariant.attached
+    given-freed s.wraps.attachments s.book.book (is_one_of c.args.values.now) c.self.invariant
 
 pub invariant_of-self : goal.invariant_of-self
 invariant_of-self c =
     let s = c.self.inside in
     let freed = is_one_of c.args.values.now in
-    kept-all (rw (c.gone_all.ensures.forgotten, c.gone_all.ensures.due)
+    (rw (c.gone_all.ensures.forgotten, c.gone_all.ensures.due)
     (kept-moved (left_on freed s.wraps.attachments) s.book.book made_due (is_attached_to freed s.wraps.attachments)
-    (kept-left s.wraps.attachments s.book.book freed c.self.invariant.attached))) (subst AreBare (sym c.take_away.ensures) (bare-left s.promises.promises freed c.self.invariant.bare))
+    (kept-left s.wraps.attachments s.book.book freed c.self.invariant)))

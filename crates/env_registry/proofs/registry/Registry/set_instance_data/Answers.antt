@@ -3,7 +3,7 @@ use Rattle.napi_types.specs.declared.ids.Ticket.{Ticket}
 use Rattle.napi_types.specs.environment.Registering.{registered_only}
 use Rattle.env_registry.specs.KeptRegistry.{KeptRegistry}
 use Rattle.env_registry.specs.Registering.{registration_of, duty_if, withdrawn_if}
-use Rattle.env_registry.proofs.Keeping.{kept-all, kept-asked, kept-dropped}
+use Rattle.env_registry.proofs.Keeping.{kept-asked, kept-dropped}
 use Rattle.env_registry.proofs.Withdrawn.{length-withdrawn, gone-is, next-is}
 use Rattle.env_registry.proofs.registry.Registry.set_instance_data.Goals as goal
 
@@ -20,8 +20,8 @@ invariant_of-self-2 c =
     let had = option_map (λ (t : Ticket). t.0) c.ticket.result in
     let t = registered_only s.book.book had in
     let gone = gone-is s.book.book c.reserve_if.new.book.book c.withdraw_if-dropped.new.book.book had c.reserve_if.ensures.same c.withdraw_if-dropped.ensures.withdrawn in
-    kept-all (rw (c.register_if-ticket.ensures.registered, gone)
-    (kept-asked s.wraps.attachments (withdrawn_if t s.book.book) c.args.finalizer (kept-dropped s.wraps.attachments s.book.book t c.self.invariant.attached))) c.self.invariant.bare
+    (rw (c.register_if-ticket.ensures.registered, gone)
+    (kept-asked s.wraps.attachments (withdrawn_if t s.book.book) c.args.finalizer (kept-dropped s.wraps.attachments s.book.book t c.self.invariant)))
 
 pub returns-clause-made : goal.returns-clause-made
 returns-clause-made c =

@@ -1,8 +1,8 @@
-use Rattle.env_registry.proofs.Keeping.{kept-all, kept-wrapped}
+use Rattle.env_registry.proofs.Keeping.{kept-wrapped}
 use Rattle.env_registry.proofs.registry.Registry.wrap.Goals as goal
 
 pub invariant_of-self : goal.invariant_of-self
 invariant_of-self c =
     let s = c.self.inside in
-    kept-all (rw (c.wrap.ensures.wrapped, c.register_if-ticket.ensures.registered, c.register_if-ticket.ensures.ticket)
-    (kept-wrapped s.wraps.attachments s.book.book c.args.value.0 _ c.args.finalizer c.self.invariant.attached)) c.self.invariant.bare
+    (rw (c.wrap.ensures.wrapped, c.register_if-ticket.ensures.registered, c.register_if-ticket.ensures.ticket)
+    (kept-wrapped s.wraps.attachments s.book.book c.args.value.0 _ c.args.finalizer c.self.invariant))

@@ -1,11 +1,6 @@
 use Rattle.napi_types.specs.declared.ids.ValueId.{ValueId}
-use Rattle.napi_types.specs.parts.Promises.{deferred_promise}
-use Rattle.parts_suite.proofs.ManyPromises.{registered-bare, settled-bare}
+use Rattle.parts_suite.proofs.ManyPromises.{settled-bare}
 use Rattle.parts_suite.proofs.tests.promises.settle.Goals as goal
-
-pub settle-requires-clause-registered : goal.settle-requires-clause-registered
-settle-requires-clause-registered c =
-    registered-bare c.args.deferreds.now.promises c.args.book.now.book (deferred_promise c.args.deferreds.now.promises c.args.id.0) c.requires
 
 pub returns : goal.returns
 returns c =
