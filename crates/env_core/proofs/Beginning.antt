@@ -12,17 +12,18 @@ use Rattle.napi_types.specs.declared.entry.Phase.{Phase}
 use Rattle.napi_types.specs.declared.entry.Phase.TheVariants as phase
 use Rattle.napi_types.specs.declared.entry.Why.{Why}
 use Rattle.napi_types.specs.parts.AsyncHooks.{with_begun}
-use Rattle.napi_types.specs.plain.Lists.{tail}
-use Rattle.napi_types.specs.parts.Book.{Book, Registration, TicketState, Registered, is_registered, is_begun, is_at, due_info, made_due_and_begun, made_ended, changed_where, moved, moved_at, with_registration, begun_in}
+use Rattle.napi_types.specs.plain.Lists.{has_number, tail}
+use Rattle.napi_types.specs.parts.Book.{Book, Registration, TicketState, Registered, is_registered, is_begun, is_at, due_info, made_due, made_due_and_begun, made_ended, changed_where, moved, moved_at, with_hint, with_registration, begun_in}
 use Rattle.napi_types.specs.parts.Duties.{duties_of}
 use Rattle.napi_types.specs.parts.Frames.{Frame, duty_of, frame_of_duty, ask_counted, is_hub_duty}
 use Rattle.napi_types.specs.parts.Graph.{StoreState, IsLive}
 use Rattle.napi_types.specs.parts.Heap.{Heap}
 use Rattle.napi_types.specs.parts.HeapChanges.{with_frame}
 use Rattle.napi_types.specs.parts.Hooks.{Hook, last_hook, without_hook}
+use Rattle.napi_types.specs.parts.Promises.{made_settled, reactions_settled}
 use Rattle.napi_types.specs.parts.References.{ReferenceMap}
 use Rattle.napi_types.specs.parts.Scopes.{OpenHandle, held_by_frames}
-use Rattle.napi_types.specs.environment.Ends.{duty_ended, without_innermost_frame, outermost_end_change}
+use Rattle.napi_types.specs.environment.Ends.{duty_ended, reaction_ended, without_innermost_frame, outermost_end_change}
 use Rattle.napi_types.specs.environment.Environment.{Environment, TsfnRoot}
 use Rattle.napi_types.specs.environment.Hooked.{is_from_finals_on, IsHooked}
 use Rattle.napi_types.specs.environment.Registry.{Registry}
@@ -72,6 +73,26 @@ moved-stays move goes test book n is = is_at-changed_where is_begun (moved (next
 pub begun-still-moved : (frames : List Frame) (move : Move) → move ≢ Ends → (book : Book) (test : ℕ → Bool) → AreBegun frames book → AreBegun frames (changed_where (moved (next move)) test book)
 begun-still-moved frames move goes book test begun =
     stays-begun frames book (changed_where (moved (next move)) test book) (moved-stays move goes test book) begun
+
+-- reactions are settled
+settled-stays : (state : ℕ) (tickets : List ℕ) (book : Book) → StayBegun book (reactions_settled state tickets book)
+settled-stays state tickets book n is =
+    is_at-changed_where is_begun (made_settled state) (λ m. has_number m tickets) book n u.registration u.there ∙ by (has_number n tickets)
+  where
+    u : IsUnder (PassesTest is_begun) book n
+    u = under-ticket is_begun book n is
+
+    unregistered : (s : TicketState) → is_begun s ≡ true → is_registered s ≡ false
+    unregistered Registered begun = cc
+    unregistered _ begun = refl
+
+    by : (b : Bool) → is_begun (cond b (made_settled state u.registration) u.registration).state ≡ true
+    by true =
+        ap (λ b. is_begun (cond b (moved made_due (with_hint state u.registration)) u.registration).state) (unregistered u.registration.state u.holds) ∙ u.holds
+    by false = u.holds
+
+pub begun-settled : (frames : List Frame) (book : Book) (state : ℕ) (tickets : List ℕ) → AreBegun frames book → AreBegun frames (reactions_settled state tickets book)
+begun-settled frames book state tickets begun = stays-begun frames book (reactions_settled state tickets book) (settled-stays state tickets book) begun
 
 -- THE FRAMES CHANGE
 -- one ask more
@@ -215,11 +236,12 @@ length-duty _ book = refl
 
 -- the environment as such a frame has ended
 pub left-with : (e mid new : Environment) (cut : Option Why) (d : Duty) → mid ≡ record e { pending = None } → duty_of e.frames ≡ Some d
-    → new ≡ record (without_innermost_frame mid) { book = duty_ended (Some d) mid.book } → new ≡ (outermost_end_change cut e).after
+    → new ≡ record (without_innermost_frame mid) { book = duty_ended (Some d) mid.book; promises = reaction_ended (Some d) mid.promises }
+    → new ≡ (outermost_end_change cut e).after
 left-with e mid new cut d cleared has is =
     is
-    ∙ ap (λ (m : Environment). record (without_innermost_frame m) { book = duty_ended (Some d) m.book }) cleared
-    ∙ ap (λ o. record (without_innermost_frame e) { pending = None; book = duty_ended o e.book }) (sym has)
+    ∙ ap (λ (m : Environment). record (without_innermost_frame m) { book = duty_ended (Some d) m.book; promises = reaction_ended (Some d) m.promises }) cleared
+    ∙ ap (λ o. record (without_innermost_frame e) { pending = None; book = duty_ended o e.book; promises = reaction_ended o e.promises }) (sym has)
 
 pub duty-stands : (frames : List Frame) (d : Duty) → duty_of frames ≡ Some d → frames ≢ []
 duty-stands [] d has = let no : ⊥ = cc in absurd no

@@ -1,5 +1,5 @@
 -- A core stays one where an entry is written.
-use Rattle.std.proofs.Common.{◌≡◌, ◌≤◌, ◌≢◌, ℕ, ◌+◌, ◌-◌, ◌*◌, ◌==◌, Bool, true, false, not, cond, ◌&&◌, IsTrue, List, [], ◌∷◌, ◌++◌, length, Option, Some, None, is_none, is_some, option_map, slice_get, subst, sym, ap, ◌∙◌, arith, length-append, refl}
+use Rattle.std.proofs.Common.{◌≡◌, ◌≤◌, ◌≢◌, ℕ, ◌+◌, ◌-◌, ◌*◌, ◌==◌, Bool, true, false, not, cond, ◌&&◌, IsTrue, List, [], ◌∷◌, ◌++◌, length, Option, Some, None, is_none, is_some, option_map, slice_get, subst, sym, ap, ◌∙◌, arith, length-append, refl, suc}
 use Rattle.std.proofs.Math.Seq.{get_or-append_seam}
 use Rattle.std.proofs.lemmas.Bool.{le-ltb}
 use Rattle.std.proofs.lemmas.Option.{slice_get_read}
@@ -9,6 +9,7 @@ use Rattle.napi_types.specs.declared.call.Call.TheVariants as call
 use Rattle.napi_types.specs.declared.entry.Cause.{Cause}
 use Rattle.napi_types.specs.declared.entry.Cause.TheVariants as cause
 use Rattle.napi_types.specs.declared.entry.Duty.{Duty}
+use Rattle.napi_types.specs.declared.entry.Duty.TheVariants as duty
 use Rattle.napi_types.specs.declared.entry.Entry.{Entry}
 use Rattle.napi_types.specs.declared.entry.Local.{Local}
 use Rattle.napi_types.specs.declared.entry.Phase.{Phase}
@@ -23,13 +24,14 @@ use Rattle.napi_types.specs.plain.Lists.{tail}
 use Rattle.napi_types.specs.plain.Phases.{next_phase}
 use Rattle.napi_types.specs.plain.Room.{one_if, need, is_full}
 use Rattle.napi_types.specs.parts.Book.{Book, Registration, is_registered, is_due, registration_at, lowest_due, owed_tickets, made_due, moved, moved_at, begun_in, may_begin_in}
-use Rattle.napi_types.specs.parts.Frames.{Frame, asks_made, caller_of, cause_of, duty_of, is_hub_duty, local_frames}
+use Rattle.napi_types.specs.parts.Frames.{Frame, asks_made, caller_of, cause_of, duty_of, is_hub_duty, local_frames, ask_counted}
 use Rattle.napi_types.specs.parts.Promises.{Promises}
 use Rattle.napi_types.specs.parts.Hooks.{last_hook}
 use Rattle.napi_types.specs.environment.Calls.{answer_unless_deep}
 use Rattle.napi_types.specs.environment.Changes.{call_change, call_entry, issued_number, book_in, in_phase}
 use Rattle.napi_types.specs.environment.Ends.{end_change_by, outermost_end_change, end_change}
-use Rattle.napi_types.specs.environment.Entering.{is_entering}
+use Rattle.napi_types.specs.environment.Entering.{is_entering, enter_change}
+use Rattle.napi_types.specs.environment.Registry.{registry_of}
 use Rattle.napi_types.specs.environment.Environment.{Environment}
 use Rattle.napi_types.specs.environment.Hooked.{is_from_finals_on, IsHooked}
 use Rattle.napi_types.specs.environment.JournalRoom.{gone_place, reserved_journal}
@@ -39,10 +41,10 @@ use Rattle.napi_types.specs.environment.Tickets.{ticket_change, ticket_in, next_
 use Rattle.napi_types.proofs.parts.BookSteps.{step-length}
 use Rattle.napi_types.proofs.parts.Books.{owed-begun, lowest-due, length-changed_where}
 use Rattle.napi_types.proofs.parts.Moved.{IsUnder, PassesTest}
-use Rattle.napi_types.proofs.environment.AnswersKeep.{course-parts, KeepsButAsk, call_change-keeps, call-reserved}
-use Rattle.napi_types.proofs.environment.FrameChanges.{book_left, owed-left, KeepsButFrame, ended-keeps, left-parts}
-use Rattle.napi_types.proofs.environment.HookedSteps.{hooked-called, hooked-ended, hooked-begun, hooked-phase, GivesNew}
-use Rattle.napi_types.proofs.environment.Promised.{still-promised, called-promised, ended-promised}
+use Rattle.napi_types.proofs.environment.AnswersKeep.{course-parts, KeepsButAsk, call_change-keeps, call-reserved, local-counted}
+use Rattle.napi_types.proofs.environment.FrameChanges.{book_left, promises_after, owed-left, KeepsButFrame, ended-keeps, left-parts, KeepsAndEnters, enter_change-keeps, registry-parts}
+use Rattle.napi_types.proofs.environment.HookedSteps.{hooked-called, hooked-ended, hooked-begun, hooked-phase, GivesNew, hooked-entered}
+use Rattle.napi_types.proofs.environment.Promised.{still-promised, called-promised, ended-promised, entered-promised}
 use Rattle.napi_types.proofs.environment.Registrations.{owed-in}
 use Rattle.env_core.specs.Journal.{JournalSeen, told_entry, last_reply}
 use Rattle.env_core.specs.Core.{Core, IsCore, after_change, room_in}
@@ -140,6 +142,29 @@ core-call_change old new pages after c x n core k hooked fits room left e =
     core-pushed old new pages after x n core e (omega (arith, law, left, core.reserved)) (omega (arith, left, places, room)) k.heap.handles k.heap.scopes k.references k.heap.made
     (step-length (caller_of old.frames) old.book x.reply.made x.reply.dropped new.book k.book) k.deferreds hooked fits
 
+-- a call of a function that is accepted fills one place by the begin of its frame, and keeps one for the end
+reserved-entered : (old new : Environment) (f : HandleId) → KeepsAndEnters old new f → reserved_journal new ≡ reserved_journal old + 1
+reserved-entered old new f k =
+    let course = course-parts old new k.course in
+    let book : new.book ≡ old.book = (registry-parts (registry_of old) new k.registry).book in
+    let counted : length (local_frames (ask_counted old.frames)) ≡ length (local_frames old.frames) = local-counted old.frames in
+    let more : length (local_frames new.frames) ≡ suc (length (local_frames (ask_counted old.frames))) = ap (λ fs. length (local_frames fs)) k.frames in
+    rw (course.opened, course.phase, course.addons, course.inits, book) (omega (arith, counted, more))
+
+pub core-entered : (old new : Environment) (pages after : JournalSeen) (x : Entry) (receiver : Option HandleId) (f : HandleId) (args : Args) → IsCore old pages
+    → new ≡ (enter_change receiver f args old).after → length pages.entries + pages.promised + 2 ≤ pages.limit → after ≡ written x (pages.promised + 2 - 1) pages
+    → IsCore new after
+core-entered old new pages after x receiver f args c is room e =
+    let K : Environment → Type 0 = λ s. KeepsAndEnters old s f in
+    let k : KeepsAndEnters old new f = subst K (sym is) (enter_change-keeps receiver f args old) in
+    let registry = registry-parts (registry_of old) new k.registry in
+    let reserved : reserved_journal new ≡ reserved_journal old + 1 = reserved-entered old new f k in
+    core-pushed old new pages after x (pages.promised + 2 - 1) c e (omega (arith, reserved, c.reserved)) (omega (arith, room)) k.handles
+    (omega (arith, ap length k.scope_numbers)) (omega (arith, ap (λ m. length m.issued) k.references)) (omega (arith, k.made))
+    (omega (arith, ap length registry.book)) (omega (arith, ap (λ (p : Promises). length p.issued) registry.promises))
+    (subst (λ (s : Environment). IsHooked s) (sym is) (hooked-entered receiver f args old c.hooked))
+    (subst (λ (s : Environment). IsPromised s) (sym is) (entered-promised receiver f args old c.promised))
+
 -- the innermost frame, which no duty of the hub began, is one of those whose end stands in the journal
 length-left : (fs : List Frame) → fs ≢ [] → is_hub_duty (duty_of fs) ≡ false → length (local_frames (tail fs)) + 1 ≡ length (local_frames fs)
 length-left [] h local = absurd (h refl)
@@ -152,6 +177,15 @@ length-left (f ∷ fs) h local = by (is_hub_duty f.duty) local
 length-book_left : (c : Cause) (d : Option Duty) (book : Book) → length (book_left c d book) ≡ length book
 length-book_left cause.Call d book = refl
 length-book_left _ d book = length-duty d book
+
+-- no deferred is made
+issued-after : (c : Cause) (d : Option Duty) (p : Promises) → (promises_after c d p).issued ≡ p.issued
+issued-after cause.Call d p = refl
+issued-after _ (Some (duty.Ticket t)) p = refl
+issued-after _ (Some (duty.Work n)) p = refl
+issued-after _ (Some (duty.Item f n)) p = refl
+issued-after _ (Some (duty.Function f)) p = refl
+issued-after _ None p = refl
 
 -- a frame that no call began ends as an outermost one
 pub end-outermost : (v : Option HandleId) (cut : Option Why) (e : Environment) (c : Cause) → c ≢ cause.Call → end_change_by v cut e c ≡ outermost_end_change cut e
@@ -176,7 +210,11 @@ core-ended old new pages after x v cut c stands local h e =
     core-pushed old new pages after x (pages.promised - 1) c e (omega (arith, fewer, c.reserved)) (omega (arith, fewer, c.reserved, c.within))
     k.handles (omega (arith, ap length k.scope_numbers)) (omega (arith, ap (λ m. length m.issued) k.references)) (omega (arith, k.made))
     (omega (arith, ap length (left-parts old new k).book, length-book_left (cause_of old.frames) (duty_of old.frames) old.book))
-    (omega (arith, ap (λ (p : Promises). length p.issued) (left-parts old new k).promises))
+    (omega (
+      arith,
+      ap (λ (p : Promises). length p.issued) (left-parts old new k).promises,
+      ap length (issued-after (cause_of old.frames) (duty_of old.frames) old.promises),
+    ))
     (subst (λ (s : Environment). IsHooked s) (sym h) (hooked-ended v cut old c.hooked))
     (subst (λ (s : Environment). IsPromised s) (sym h) (ended-promised v cut old c.promised))
 
@@ -268,6 +306,7 @@ value-need (call.CallFunction receiver f args) h = cc
 value-need (call.SetInstanceData payload finalizer hint) h = cc
 value-need (call.AddEnvCleanupHook entry argument) h = cc
 value-need (call.AddAsyncCleanupHook entry argument) h = cc
+value-need (call.AddReaction promise entry payload) h = cc
 value-need (call.QueueAsyncWork work) h = cc
 value-need (call.CreateThreadsafeFunction f entry most first finalizer context) h = cc
 value-need (call.CallThreadsafeFunction f payload mode) h = cc

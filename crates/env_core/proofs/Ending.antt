@@ -1,12 +1,17 @@
 -- What stays of a state where a frame ends.
-use Rattle.std.proofs.Common.{◌≡◌, ℕ, ◌+◌, List, [], ◌∷◌, ◌++◌, refl, ap, sym, ◌∙◌, Option, Some, IfSome}
+use Rattle.std.proofs.Common.{◌≡◌, true, None, ℕ, ◌+◌, List, [], ◌∷◌, ◌++◌, refl, ap, sym, ◌∙◌, Option, Some, IfSome}
 use Rattle.std.specs.List.{All}
+use Rattle.napi_types.specs.declared.entry.Duty.{Duty}
+use Rattle.napi_types.specs.declared.entry.Duty.TheVariants as duty
 use Rattle.napi_types.specs.plain.Lists.{tail}
-use Rattle.napi_types.specs.parts.Frames.{Frame}
+use Rattle.napi_types.specs.parts.Book.{Book}
+use Rattle.napi_types.specs.parts.Frames.{Frame, ticket_of, is_hub_duty}
 use Rattle.napi_types.specs.parts.Graph.{StoreState, IsLive}
+use Rattle.napi_types.specs.parts.Promises.{Promises}
 use Rattle.napi_types.specs.parts.References.{ReferenceMap}
 use Rattle.napi_types.specs.parts.ScopeChanges.{hold_in}
 use Rattle.napi_types.specs.parts.Scopes.{OpenHandle, FrameScopes, held_by_scopes, held_by_frames}
+use Rattle.napi_types.specs.environment.Ends.{duty_ended, reaction_ended}
 use Rattle.napi_types.specs.environment.Environment.{TsfnRoot}
 use Rattle.napi_types.proofs.plain.Lists.{length-changed, length-tail, All-left}
 use Rattle.handle_scope.specs.HandleScopes.{HandleScopes, without_frame_scopes, without_call_scopes, with_issued_handle}
@@ -44,3 +49,27 @@ state-given {m = m} {rs = rs} store old new standing left thrown pending v s sco
       referred = s.referred;
       rooted = s.rooted;
     })
+
+-- THE DUTY ENDS
+-- one that is of no ticket changes neither the book nor the promises
+pub ticketless-book : (d : Option Duty) (book : Book) → ticket_of d ≡ None → duty_ended d book ≡ book
+ticketless-book None book none = refl
+ticketless-book (Some (duty.Ticket t)) book none = cc
+ticketless-book (Some (duty.Work n)) book none = refl
+ticketless-book (Some (duty.Item f n)) book none = refl
+ticketless-book (Some (duty.Function f)) book none = refl
+
+pub ticketless-promises : (d : Option Duty) (p : Promises) → ticket_of d ≡ None → reaction_ended d p ≡ p
+ticketless-promises None p none = refl
+ticketless-promises (Some (duty.Ticket t)) p none = cc
+ticketless-promises (Some (duty.Work n)) p none = refl
+ticketless-promises (Some (duty.Item f n)) p none = refl
+ticketless-promises (Some (duty.Function f)) p none = refl
+
+-- no duty of the hub is of one
+pub hub-ticketless : (d : Option Duty) → is_hub_duty d ≡ true → ticket_of d ≡ None
+hub-ticketless None hub = refl
+hub-ticketless (Some (duty.Ticket t)) hub = cc
+hub-ticketless (Some (duty.Work n)) hub = refl
+hub-ticketless (Some (duty.Item f n)) hub = refl
+hub-ticketless (Some (duty.Function f)) hub = refl

@@ -13,6 +13,7 @@ pub mod Knowing
 pub mod Looking
 pub mod PromiseAnswers
 pub mod Promising
+pub mod Reacting
 pub mod OwnRefusals
 pub mod Referring
 pub mod Registered

@@ -1,22 +1,25 @@
 -- Promises as the machine sees them, and what the calls on them answer.
-use Rattle.std.proofs.Common.{◌≡◌, ◌∙◌, ℕ, ◌+◌, ◌==◌, ◌&&◌, ◌||◌, Bool, true, false, not, cond, List, [], ◌∷◌, map, filter, get_or, Option, Some, None, IsSome, option_map, refl, ap, sym, subst, arith}
+use Rattle.std.proofs.Common.{◌≡◌, ◌∙◌, ℕ, ◌+◌, ◌==◌, ◌&&◌, ◌||◌, Bool, true, false, not, cond, List, [], ◌∷◌, ◌++◌, map, filter, get_or, Option, Some, None, IsSome, option_map, refl, ap, sym, subst, arith}
 use Rattle.std.specs.List.{All}
 use Rattle.std.specs.Option.{unwrap_or}
 use Rattle.std.proofs.lemmas.List.{map-append}
 use Rattle.std.proofs.lemmas.List.Folds.{list_any-append}
 use Rattle.std.proofs.lemmas.List.Elements.{All-head, All-tail, All-nil, All-filter, All-map, All-append}
 use Rattle.std.proofs.lemmas.Bool.{or_from}
+use Rattle.napi_types.specs.declared.entry.Duty.{Duty}
+use Rattle.napi_types.specs.declared.entry.Duty.TheVariants as duty
 use Rattle.napi_types.specs.plain.Lists.{found, has, has_number, as_map, with_record, with_number, HaveSameNumbers, is_empty}
 use Rattle.napi_types.specs.parts.Graph.{StoreState, IsSoundStore, IsLive, value_of, number_in}
-use Rattle.napi_types.specs.parts.Promises.{Promise, Deferred, Promises, no_promises, deferred_promise, promise_roots, with_promise, with_settled}
+use Rattle.napi_types.specs.parts.Promises.{Promise, Deferred, Promises, no_promises, promise_at, promise_state, reactions_of, deferred_promise, promise_roots, with_promise, with_settled, with_reaction}
 use Rattle.napi_types.specs.parts.Values.{Value}
+use Rattle.napi_types.specs.environment.Ends.{reaction_ended}
 use Rattle.napi_types.proofs.plain.Found.{same-tells, found-same, found-as_map, found-map, rising-as_map, rising-changed, map-rising}
 use Rattle.napi_types.proofs.plain.Maps.{All-with_record, map-filter, map-with_record}
 use Rattle.deferred.specs.KeptPromises.{AreMaps}
 use Rattle.env_values.specs.SeenValues.{KeepsValues}
 use Rattle.env_core.specs.Promising.{seen_promise, seen_deferred, promises_seen, PromisesAreLive}
 use Rattle.env_core.proofs.Attaching.{number-apart, listed-kept}
-use Rattle.env_core.proofs.Renaming.{any-filter, same-renamed, seen-with_record, listed-filter, list_any-seen}
+use Rattle.env_core.proofs.Renaming.{found-seen, any-filter, same-renamed, seen-with_record, listed-filter, list_any-seen}
 
 -- WHAT HOLDS
 pub promised-new : (s : StoreState) → PromisesAreLive s no_promises
@@ -29,23 +32,50 @@ promised-made s p v n i live = record {
       (filter (λ d. not (d.promise == v)) p.deferreds) live (All-filter (λ (d : Deferred). not (d.promise == v)) (λ d. IsLive s d.promise) p.deferreds i.deferreds);
 }
 
--- a promise that is settled
-abbrev settled : ℕ → ℕ → Promise → Promise
-settled v state r = cond (r.value == v) (record r { state = state }) r
+-- a change of promises that keeps whose each is
+abbrev KeepsValue : (Promise → Promise) → Type 0
+KeepsValue change = (r : Promise) → (change r).value ≡ r.value
 
-settled-value : (v state : ℕ) (r : Promise) → (settled v state r).value ≡ r.value
-settled-value v state r = by (r.value == v)
+-- one promise changes so
+abbrev changed : (Promise → Promise) → ℕ → Promise → Promise
+changed change v r = cond (r.value == v) (change r) r
+
+changed-value : (change : Promise → Promise) → KeepsValue change → (v : ℕ) (r : Promise) → (changed change v r).value ≡ r.value
+changed-value change keeps v r = by (r.value == v)
   where
-    by : (b : Bool) → (cond b (record r { state = state }) r).value ≡ r.value
-    by true = refl
+    by : (b : Bool) → (cond b (change r) r).value ≡ r.value
+    by true = keeps r
     by false = refl
+
+promised-changed : (s : StoreState) (change : Promise → Promise) → KeepsValue change → (v : ℕ) (rs : List Promise) → All (λ r. IsLive s r.value) rs
+    → All (λ r. IsLive s r.value) (map (changed change v) rs)
+promised-changed s change keeps v rs all =
+    All-map (λ (r : Promise). IsLive s r.value) (changed change v) rs
+    (λ k d inside. subst (IsLive s) (sym (changed-value change keeps v (get_or rs k d))) (all k d inside))
+
+-- it is settled, or has a reaction more
+abbrev settles : ℕ → Promise → Promise
+settles state r = record r { state = state }
+
+abbrev reacts : ℕ → Promise → Promise
+reacts ticket r = record r { reactions = r.reactions ++ ticket ∷ [] }
 
 pub promised-settled : (s : StoreState) (p : Promises) (n v state : ℕ) → PromisesAreLive s p → PromisesAreLive s (with_settled n v state p)
 promised-settled s p n v state i = record {
-  promises = All-map (λ (r : Promise). IsLive s r.value) (settled v state) p.promises
-      (λ k d inside. subst (IsLive s) (sym (settled-value v state (get_or p.promises k d))) (i.promises k d inside));
+  promises = promised-changed s (settles state) (λ r. refl) v p.promises i.promises;
   deferreds = All-filter (λ (d : Deferred). not (d.number == n)) (λ d. IsLive s d.promise) p.deferreds i.deferreds;
 }
+
+pub promised-reacting : (s : StoreState) (p : Promises) (v ticket : ℕ) → PromisesAreLive s p → PromisesAreLive s (with_reaction v ticket p)
+promised-reacting s p v ticket i = record { promises = promised-changed s (reacts ticket) (λ r. refl) v p.promises i.promises; deferreds = i.deferreds }
+
+-- a reaction has ended
+abbrev ends : ℕ → Promise → Promise
+ends ticket r = record r { reactions = filter (λ m. not (m == ticket)) r.reactions }
+
+pub promised-ended : (s : StoreState) (p : Promises) (d : Duty) → PromisesAreLive s p → PromisesAreLive s (reaction_ended (Some d) p)
+promised-ended s p (duty.Ticket t) i = record { promises = All-map (λ (r : Promise). IsLive s r.value) (ends t.0) p.promises i.promises; deferreds = i.deferreds }
+promised-ended s p _ i = i
 
 -- VALUES THAT STAY
 module _ (s t : StoreState) (kept : KeepsValues s t) where
@@ -77,6 +107,29 @@ seen-deferred s p n = ap (option_map (λ (d : Deferred). d.promise)) (deferreds-
     by (Some d) = refl
 
 -- CHANGES
+-- records of a map that change and keep their values are a map
+mapped-map : (f : Promise → Promise) → KeepsValue f → (rs : List Promise) → as_map (λ r. r.value) (map f rs) ≡ map f (as_map (λ r. r.value) rs)
+mapped-map f keeps rs =
+    found-same (λ (r : Promise). r.value) (as_map (λ r. r.value) (map f rs)) (map f (as_map (λ r. r.value) rs)) (rising-as_map (λ (r : Promise). r.value) (map f rs))
+    (rising-changed (λ (r : Promise). r.value) f keeps (as_map (λ r. r.value) rs) (rising-as_map (λ (r : Promise). r.value) rs))
+    (λ n. found-as_map (λ (r : Promise). r.value) n (map f rs)
+    ∙ found-map (λ (r : Promise). r.value) f keeps n rs
+    ∙ ap (option_map f) (sym (found-as_map (λ (r : Promise). r.value) n rs))
+    ∙ sym (found-map (λ (r : Promise). r.value) f keeps n (as_map (λ r. r.value) rs)))
+
+-- a reaction has ended
+ended-seen : (s : StoreState) (ticket : ℕ) (rs : List Promise) → map (seen_promise s) (map (ends ticket) rs) ≡ map (ends ticket) (map (seen_promise s) rs)
+ended-seen s ticket [] = refl
+ended-seen s ticket (r ∷ rs) = ap (λ xs. ends ticket (seen_promise s r) ∷ xs) (ended-seen s ticket rs)
+
+pub seen-ended : (s : StoreState) (p : Promises) (d : Duty) → promises_seen s (reaction_ended (Some d) p) ≡ reaction_ended (Some d) (promises_seen s p)
+seen-ended s p (duty.Ticket t) =
+    ap (λ l. record { promises = l; deferreds = map (seen_deferred s) p.deferreds; issued = p.issued })
+    (ap (as_map (λ (r : Promise). r.value)) (ended-seen s t.0 p.promises) ∙ mapped-map (ends t.0) (λ r. refl) (map (seen_promise s) p.promises))
+seen-ended s p (duty.Work n) = refl
+seen-ended s p (duty.Item f n) = refl
+seen-ended s p (duty.Function f) = refl
+
 module _ (s : StoreState) (sound : IsSoundStore s) where
   -- a value that no promise is becomes one
   unlike : (v : ℕ) → IsLive s v → (ds : List Deferred) → All (λ d. IsLive s d.promise) ds
@@ -107,48 +160,70 @@ module _ (s : StoreState) (sound : IsSoundStore s) where
         issued = with_number n p.issued;
       }) deferreds
 
-  -- a deferred is settled
-  settled-seen : (v state : ℕ) → IsLive s v → (rs : List Promise) → All (λ r. IsLive s r.value) rs
-      → map (seen_promise s) (map (settled v state) rs) ≡ map (settled (number_in s v) state) (map (seen_promise s) rs)
-  settled-seen v state live [] all = refl
-  settled-seen v state live (r ∷ rs) all =
+  -- one promise changes, whose value is not named by the change
+  changed-seen : (change : Promise → Promise) → ((r : Promise) → seen_promise s (change r) ≡ change (seen_promise s r)) → (v : ℕ) → IsLive s v → (rs : List Promise)
+      → All (λ r. IsLive s r.value) rs → map (seen_promise s) (map (changed change v) rs) ≡ map (changed change (number_in s v)) (map (seen_promise s) rs)
+  changed-seen change seen v live [] all = refl
+  changed-seen change seen v live (r ∷ rs) all =
       let test : (number_in s r.value == number_in s v) ≡ (r.value == v) =
       same-renamed (λ (x : Promise). x.value) (number_in s) (seen_promise s) (λ x. refl) (IsLive s) (number-apart s sound) r.value v
       (All-head (λ (x : Promise). IsLive s x.value) r rs all) live in
-      ap (λ x. x ∷ map (seen_promise s) (map (settled v state) rs))
-      (by (r.value == v) ∙ ap (λ b. cond b (record (seen_promise s r) { state = state }) (seen_promise s r)) (sym test))
-      ∙ ap (λ xs. settled (number_in s v) state (seen_promise s r) ∷ xs) (settled-seen v state live rs (All-tail (λ (x : Promise). IsLive s x.value) r rs all))
+      ap (λ x. x ∷ map (seen_promise s) (map (changed change v) rs))
+      (by (r.value == v) ∙ ap (λ b. cond b (change (seen_promise s r)) (seen_promise s r)) (sym test))
+      ∙ ap (λ xs. changed change (number_in s v) (seen_promise s r) ∷ xs) (changed-seen change seen v live rs (All-tail (λ (x : Promise). IsLive s x.value) r rs all))
     where
-      by : (b : Bool) → seen_promise s (cond b (record r { state = state }) r) ≡ cond b (record (seen_promise s r) { state = state }) (seen_promise s r)
-      by true = refl
+      by : (b : Bool) → seen_promise s (cond b (change r) r) ≡ cond b (change (seen_promise s r)) (seen_promise s r)
+      by true = seen r
       by false = refl
 
-  settled-map : (v state : ℕ) (rs : List Promise) → as_map (λ r. r.value) (map (settled v state) rs) ≡ map (settled v state) (as_map (λ r. r.value) rs)
-  settled-map v state rs =
-      found-same (λ (r : Promise). r.value) (as_map (λ r. r.value) (map (settled v state) rs)) (map (settled v state) (as_map (λ r. r.value) rs))
-      (rising-as_map (λ (r : Promise). r.value) (map (settled v state) rs))
-      (rising-changed (λ (r : Promise). r.value) (settled v state) (settled-value v state) (as_map (λ r. r.value) rs) (rising-as_map (λ (r : Promise). r.value) rs))
-      (λ n. found-as_map (λ (r : Promise). r.value) n (map (settled v state) rs)
-      ∙ found-map (λ (r : Promise). r.value) (settled v state) (settled-value v state) n rs
-      ∙ ap (option_map (settled v state)) (sym (found-as_map (λ (r : Promise). r.value) n rs))
-      ∙ sym (found-map (λ (r : Promise). r.value) (settled v state) (settled-value v state) n (as_map (λ r. r.value) rs)))
+  seen-changed : (change : Promise → Promise) → KeepsValue change → ((r : Promise) → seen_promise s (change r) ≡ change (seen_promise s r)) → (v : ℕ) → IsLive s v
+      → (rs : List Promise) → All (λ r. IsLive s r.value) rs
+      → as_map (λ r. r.value) (map (seen_promise s) (map (changed change v) rs)) ≡ map (changed change (number_in s v)) (as_map (λ r. r.value) (map (seen_promise s) rs))
+  seen-changed change keeps seen v live rs all =
+      ap (as_map (λ (r : Promise). r.value)) (changed-seen change seen v live rs all)
+      ∙ mapped-map (changed change (number_in s v)) (changed-value change keeps (number_in s v)) (map (seen_promise s) rs)
 
+  -- a deferred is settled
   pub seen-with_settled : (p : Promises) (n v state : ℕ) → IsLive s v → PromisesAreLive s p
       → promises_seen s (with_settled n v state p) ≡ with_settled n (number_in s v) state (promises_seen s p)
   seen-with_settled p n v state live i =
-      let promises : as_map (λ (r : Promise). r.value) (map (seen_promise s) (map (settled v state) p.promises))
-      ≡ map (settled (number_in s v) state) (as_map (λ r. r.value) (map (seen_promise s) p.promises)) =
-      ap (as_map (λ (r : Promise). r.value)) (settled-seen v state live p.promises i.promises)
-      ∙ settled-map (number_in s v) state (map (seen_promise s) p.promises) in
       let deferreds : map (seen_deferred s) (filter (λ d. not (d.number == n)) p.deferreds) ≡ filter (λ d. not (d.number == n)) (map (seen_deferred s) p.deferreds) =
       listed-filter (λ (d : Deferred). d.number) (λ k. k) (seen_deferred s) (λ d. refl) (λ k. k ≡ k) (λ m k one other same. same) (seen_deferred s) (λ k. not (k == n))
       (λ k. not (k == n)) p.deferreds (λ k d inside. refl) (λ k d inside passes. refl) in
-      ap (λ l. record { promises = l; deferreds = map (seen_deferred s) (filter (λ d. not (d.number == n)) p.deferreds); issued = p.issued }) promises
+      ap (λ l. record { promises = l; deferreds = map (seen_deferred s) (filter (λ d. not (d.number == n)) p.deferreds); issued = p.issued })
+      (seen-changed (settles state) (λ r. refl) (λ r. refl) v live p.promises i.promises)
       ∙ ap (λ l. record {
-        promises = map (settled (number_in s v) state) (as_map (λ (r : Promise). r.value) (map (seen_promise s) p.promises));
+        promises = map (changed (settles state) (number_in s v)) (as_map (λ (r : Promise). r.value) (map (seen_promise s) p.promises));
         deferreds = l;
         issued = p.issued;
       }) deferreds
+
+  -- a reaction is added
+  pub seen-with_reaction : (p : Promises) (v ticket : ℕ) → IsLive s v → PromisesAreLive s p
+      → promises_seen s (with_reaction v ticket p) ≡ with_reaction (number_in s v) ticket (promises_seen s p)
+  seen-with_reaction p v ticket live i =
+      ap (λ l. record { promises = l; deferreds = map (seen_deferred s) p.deferreds; issued = p.issued })
+      (seen-changed (reacts ticket) (λ r. refl) (λ r. refl) v live p.promises i.promises)
+
+  -- WHAT IS READ OF ONE
+  pub seen-promise : (p : Promises) (v : ℕ) → IsLive s v → PromisesAreLive s p → promise_at (promises_seen s p) (number_in s v) ≡ option_map (seen_promise s) (promise_at p v)
+  seen-promise p v live i =
+      found-seen (λ (r : Promise). r.value) (number_in s) (seen_promise s) (λ r. refl) (IsLive s) (number-apart s sound) v p.promises live i.promises
+
+  -- its state, and its reactions
+  pub seen-state : (p : Promises) (v : ℕ) → IsLive s v → PromisesAreLive s p → promise_state (promises_seen s p) (number_in s v) ≡ promise_state p v
+  seen-state p v live i = ap (option_map (λ (r : Promise). r.state)) (seen-promise p v live i) ∙ by (promise_at p v)
+    where
+      by : (o : Option Promise) → option_map (λ (r : Promise). r.state) (option_map (seen_promise s) o) ≡ option_map (λ r. r.state) o
+      by None = refl
+      by (Some r) = refl
+
+  pub seen-reactions : (p : Promises) (v : ℕ) → IsLive s v → PromisesAreLive s p → reactions_of (promises_seen s p) (number_in s v) ≡ reactions_of p v
+  seen-reactions p v live i = ap (λ o. unwrap_or (option_map (λ (r : Promise). r.reactions) o) []) (seen-promise p v live i) ∙ by (promise_at p v)
+    where
+      by : (o : Option Promise) → unwrap_or (option_map (λ (r : Promise). r.reactions) (option_map (seen_promise s) o)) [] ≡ unwrap_or (option_map (λ r. r.reactions) o) []
+      by None = refl
+      by (Some r) = refl
 
 -- THE ROOTS
 -- a promise with a reaction

@@ -55,6 +55,7 @@ fn word_of(status: u64, out: Out) -> (&'static str, u64) {
         Out::Scope(scope) => ("scope", scope.0),
         Out::Ref(reference) => ("reference", reference.0),
         Out::AsyncHook(hook) => ("hook", hook.0),
+        Out::Promise(deferred, _) => ("promise", deferred.0),
         Out::Signed(number) => ("signed", number.unsigned_abs()),
         Out::Unsigned(number) => ("number", number),
         Out::Flag(flag) => ("flag", flag as u64),

@@ -1,8 +1,8 @@
 //! Ends of frames.
 ghost use Rattle.std.specs.Prelude.{◌≡◌, ◌≢◌, ◌<◌, ◌^◌, [], Some, None};
-ghost use Rattle.napi_types.specs.parts.Frames.{cause_of, duty_of};
+ghost use Rattle.napi_types.specs.parts.Frames.{cause_of, duty_of, ticket_of};
 ghost use Rattle.napi_types.specs.parts.HeapChanges.{without_frame};
-ghost use Rattle.napi_types.specs.environment.Ends.{end_change, call_end_change, uncut_call_end, call_end_with, duty_ended, outermost_end_change, end_out};
+ghost use Rattle.napi_types.specs.environment.Ends.{end_change, call_end_change, uncut_call_end, call_end_with, outermost_end_change, end_out};
 
 use super::{State, host_entry, host_told};
 use crate::handles::left_by;
@@ -30,7 +30,7 @@ impl State {
     /// A frame that neither a call nor a ticket began ends. An exception that is pending is cleared.
     pub(super) fn leave_outermost(&mut self, cut: Option<Why>) -> Entry
         requires standing { self.old.frames ≢ [] }
-        requires ticketless { duty_ended (duty_of self.old.frames) self.old.book ≡ self.old.book }
+        requires ticketless { ticket_of (duty_of self.old.frames) ≡ None }
         ensures entry { result ≡ (outermost_end_change cut self.old).entry }
         ensures after { self.new ≡ (outermost_end_change cut self.old).after }
     {

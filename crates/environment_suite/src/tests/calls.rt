@@ -8,7 +8,7 @@ use super::steps::{
 };
 use super::{DONE, NONE};
 use env_core::EnvCore;
-use napi_types::{Args, AsyncHookId, Call, HandleId, RefId, ScopeId, TextNo, Why};
+use napi_types::{Args, AsyncHookId, Call, DeferredId, HandleId, RefId, ScopeId, TextNo, Why};
 use std::process::Abort;
 
 const TRUE: HandleId = HandleId(4);
@@ -30,6 +30,11 @@ const ERROR: HandleId = HandleId(12);
 const FUNCTION: HandleId = HandleId(13);
 
 const EXTERNAL: HandleId = HandleId(14);
+
+/// The object as the second addon has it.
+const VALUE: HandleId = HandleId(28);
+
+const PROMISE: HandleId = HandleId(30);
 
 const UNKNOWN: HandleId = HandleId(99);
 
@@ -259,6 +264,18 @@ fn asynchronous_hooks(rt: &impl Abort, core: &mut EnvCore) {
     refuses(rt, core, Call::RemoveAsyncCleanupHook(AsyncHookId(3)), 1);
 }
 
+/// A promise with a reaction that is added before it is settled, and one that is added behind.
+fn promises(rt: &impl Abort, core: &mut EnvCore) {
+    tells(rt, core, Call::CreatePromise, "promise", 1);
+    tells(rt, core, Call::IsPromise(PROMISE), "flag", 1);
+    registers(rt, core, Call::AddReaction(PROMISE, 8, 71), 14);
+    refuses(rt, core, Call::AddReaction(VALUE, 8, 71), 1);
+    refuses(rt, core, Call::GetReactionValue, 1);
+    does(rt, core, Call::ResolveDeferred(DeferredId(1), VALUE));
+    refuses(rt, core, Call::RejectDeferred(DeferredId(1), VALUE), 1);
+    registers(rt, core, Call::AddReaction(PROMISE, 9, 72), 15);
+}
+
 /// The other calls, and the second addon's frame.
 fn others(rt: &impl Abort, core: &mut EnvCore) {
     tells(rt, core, Call::GetVersion, "number", 10);
@@ -297,6 +314,7 @@ fn others(rt: &impl Abort, core: &mut EnvCore) {
         [10, 0],
     );
     asynchronous_hooks(rt, core);
+    promises(rt, core);
     tells(rt, core, Call::GetInstanceData, "number", 0);
     leave(rt, core, None, DONE);
 }
@@ -310,19 +328,27 @@ fn first_asynchronous_hook(rt: &impl Abort, core: &mut EnvCore) {
     end_ticket(rt, core, hook, None);
 }
 
+/// The reactions, of which the first tells its payload and the state, and the second is told the value.
+fn reactions(rt: &impl Abort, core: &mut EnvCore) {
+    run_next(rt, core, None, ("ticket", 14, [1, 8, 71, 1, 0, 0, 0, 0]));
+    let reaction = start_next(rt, core);
+    gives(rt, core, Call::GetReactionValue, 31);
+    end_ticket(rt, core, reaction, None);
+}
+
 /// The loop and the teardown.
 fn teardown(rt: &impl Abort, core: &mut EnvCore) {
     // In the loop a ticket is due, though exit was asked. In `Hooks` that of the hook that was added last is next, and none after all have begun. One
     // waits and is abandoned. None is next in `Drain`.
     advance(rt, core, 1);
-    look(rt, core, ("depth", 0, [111, 0, 896, 1, 1, 9, 0, 1]));
+    look(rt, core, ("depth", 0, [119, 0, 884, 1, 1, 9, 0, 1]));
     advance(rt, core, 2);
     finish_and_close(core, 2, 3);
     run_next(rt, core, None, ("ticket", 12, [1, 7, 61, 2, 0, 0, 0, 0]));
     first_asynchronous_hook(rt, core);
     run_next(rt, core, None, ("ticket", 7, [0, 2, 50, 0, 0, 0, 0, 0]));
     run_next(rt, core, None, ("no ticket", 0, NONE));
-    look(rt, core, ("depth", 0, [120, 3, 893, 1, 0, 9, 0, 2]));
+    look(rt, core, ("depth", 0, [128, 3, 881, 1, 0, 9, 0, 2]));
     abandon(rt, core, 4);
     advance(rt, core, 5);
     run_next(rt, core, None, ("no ticket", 0, NONE));
@@ -338,9 +364,10 @@ fn teardown(rt: &impl Abort, core: &mut EnvCore) {
     run_next(rt, core, None, ("ticket", 6, [0, 1, 9, 10, 0, 0, 0, 0]));
     run_next(rt, core, None, ("ticket", 9, [0, 4, 31, 32, 0, 0, 0, 0]));
     run_next(rt, core, None, ("ticket", 10, [1, 6, 41, 42, 0, 0, 0, 0]));
+    reactions(rt, core);
     run_next(rt, core, None, ("no ticket", 0, NONE));
     advance(rt, core, 0);
-    look(rt, core, ("depth", 0, [131, 6, 893, 1, 0, 9, 0, 5]));
+    look(rt, core, ("depth", 0, [144, 6, 880, 1, 0, 9, 0, 5]));
 }
 
 #[test]
@@ -352,5 +379,5 @@ fn each_call_succeeds(rt: HostRuntime) {
     functions(&rt, &mut core);
     others(&rt, &mut core);
     teardown(&rt, &mut core);
-    assert_eq!(rt; core.into_journal().items().len(), 131);
+    assert_eq!(rt; core.into_journal().items().len(), 144);
 }

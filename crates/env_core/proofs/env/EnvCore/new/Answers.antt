@@ -23,8 +23,8 @@ opened given limit entry room most =
       tickets = omega arith;
       values = omega arith;
       deferreds = omega arith;
-      hooked = record { rise = h.rise; hooks = h.hooks; others = h.others; attached = h.attached; instances = h.instances; async = h.async };
-      promised = record { linked = (opening-promised given).linked };
+      hooked = record { rise = h.rise; hooks = h.hooks; others = h.others; attached = h.attached; instances = h.instances; reactions = h.reactions; async = h.async };
+      promised = record { linked = (opening-promised given).linked; promises = (opening-promised given).promises };
     }
 
 pub invariant_of-result : goal.invariant_of-result

@@ -1,10 +1,12 @@
 use Rattle.std.proofs.Common.{refl}
-use Rattle.napi_types.specs.declared.call.Call.TheVariants as call_of
+use Rattle.napi_types.specs.parts.Promises.{reactions_of}
 use Rattle.napi_reference.specs.ReferencePlaces.{map_of}
 use Rattle.env_values.proofs.HandleValues.{given-live}
 use Rattle.env_core.specs.contracts.state.State.{the_view}
+use Rattle.env_core.specs.Promising.{settling_call}
 use Rattle.env_core.proofs.Attaching.{attached-kept}
-use Rattle.env_core.proofs.PromiseAnswers.{deferred-live, deferred-linked, resolving, rejecting, settle-unknown, settle-refused, settle-answers}
+use Rattle.env_core.proofs.Beginning.{begun-settled}
+use Rattle.env_core.proofs.PromiseAnswers.{deferred-live, deferred-linked, settling-call, settle-unknown, settle-refused, settle-answers}
 use Rattle.env_core.proofs.Promising.{promised-kept, promised-settled}
 use Rattle.env_core.proofs.TsfnRooting.{roots-live}
 use Rattle.env_core.proofs.ValueAnswers.{pending-live, referred-live}
@@ -40,70 +42,41 @@ invariant_of-self c =
         rooted = roots-live s.store g.new.store s.tsfn_roots kept i.rooted;
       },
       rw c.in-Ok.ensures.settled (attached-kept s.store g.new.store kept s.registry.parts.attachments c.self.invariant.1),
-      rw c.in-Ok.ensures.settled c.self.invariant.2,
+      rw c.in-Ok.ensures.settled
+          (begun-settled s.frames s.registry.parts.book c.args.state (reactions_of s.registry.parts.promises c.in-Ok.promise.0) c.self.invariant.2),
       rw c.in-Ok.ensures.settled
           (promised-settled g.new.store s.registry.parts.promises c.args.deferred.0 c.in-Ok.promise.0 c.args.state
           (promised-kept s.store g.new.store kept s.registry.parts.promises c.self.invariant.3)),
     )
 
--- RESOLVED
-pub returns-in_default-clause-resolved : goal.returns-in_default-clause-resolved
-returns-in_default-clause-resolved c = λ is.
+pub returns-in_default : goal.returns-in_default
+returns-in_default c =
     let s = c.self.inside in
+    let d = c.args.deferred in
     rw (← c.self.view_is)
     (rw c.plain.ensures
     (settle-unknown (the_view s) s.store s.scopes (map_of s.references) s.tsfn_roots s.registry.parts.attachments s.exceptions.pending s.registry.parts.promises
-    (call_of.ResolveDeferred c.args.deferred c.args.value) c.args.deferred c.args.value c.args.state (resolving c.args.deferred c.args.value c.args.state is)
-    c.in_default.ensures))
+    (settling_call c.args.state d c.args.value) d c.args.value c.args.state (settling-call d c.args.value c.args.state c.requires.state) c.in_default.ensures))
 
-pub returns-in-Err-clause-resolved : goal.returns-in-Err-clause-resolved
-returns-in-Err-clause-resolved c = λ is.
+pub returns-in-Err : goal.returns-in-Err
+returns-in-Err c =
     let s = c.self.inside in
+    let d = c.args.deferred in
     rw (← c.self.view_is)
     (rw (c.plain-in-Err.ensures, c.in-Err.ensures.err)
     (settle-refused (the_view s) s.store s.scopes (map_of s.references) s.tsfn_roots s.registry.parts.attachments s.exceptions.pending s.registry.parts.promises
-    (call_of.ResolveDeferred c.args.deferred c.args.value) c.args.deferred c.args.value c.args.state c.in-Some.value.0 c.in-Err.status
-    (resolving c.args.deferred c.args.value c.args.state is) c.in-Some.ensures c.in-Err.ensures.refusal))
+    (settling_call c.args.state d c.args.value) d c.args.value c.args.state c.in-Some.value.0 c.in-Err.status
+    (settling-call d c.args.value c.args.state c.requires.state) c.in-Some.ensures c.in-Err.ensures.refusal))
 
-pub returns-in-Ok-clause-resolved : goal.returns-in-Ok-clause-resolved
-returns-in-Ok-clause-resolved c = λ is.
+pub returns-in-Ok : goal.returns-in-Ok
+returns-in-Ok c =
     let s = c.self.inside in
     let i = c.self.invariant.0 in
     let g = c.settle_with in
+    let d = c.args.deferred in
     rw (← c.self.view_is)
     (rw (c.plain-in-Ok.ensures, c.in-Ok.ensures.settled)
     (settle-answers (the_view s) s.store g.new.store s.scopes (map_of s.references) s.tsfn_roots s.registry.parts.attachments s.exceptions.pending
-    s.registry.parts.promises (call_of.ResolveDeferred c.args.deferred c.args.value) c.args.deferred c.args.value c.args.state c.in-Some.value.0
-    c.in-Ok.promise.0 (resolving c.args.deferred c.args.value c.args.state is) g.ensures.keeps.values c.invariant.ensures i.referred i.rooted
-    c.self.invariant.1 i.pending c.self.invariant.3 c.in-Some.ensures c.in-Ok.ensures.promise g.ensures.heap))
-
--- REJECTED
-pub returns-in_default-clause-rejected : goal.returns-in_default-clause-rejected
-returns-in_default-clause-rejected c = λ is.
-    let s = c.self.inside in
-    rw (← c.self.view_is)
-    (rw c.plain.ensures
-    (settle-unknown (the_view s) s.store s.scopes (map_of s.references) s.tsfn_roots s.registry.parts.attachments s.exceptions.pending s.registry.parts.promises
-    (call_of.RejectDeferred c.args.deferred c.args.value) c.args.deferred c.args.value c.args.state (rejecting c.args.deferred c.args.value c.args.state is)
-    c.in_default.ensures))
-
-pub returns-in-Err-clause-rejected : goal.returns-in-Err-clause-rejected
-returns-in-Err-clause-rejected c = λ is.
-    let s = c.self.inside in
-    rw (← c.self.view_is)
-    (rw (c.plain-in-Err.ensures, c.in-Err.ensures.err)
-    (settle-refused (the_view s) s.store s.scopes (map_of s.references) s.tsfn_roots s.registry.parts.attachments s.exceptions.pending s.registry.parts.promises
-    (call_of.RejectDeferred c.args.deferred c.args.value) c.args.deferred c.args.value c.args.state c.in-Some.value.0 c.in-Err.status
-    (rejecting c.args.deferred c.args.value c.args.state is) c.in-Some.ensures c.in-Err.ensures.refusal))
-
-pub returns-in-Ok-clause-rejected : goal.returns-in-Ok-clause-rejected
-returns-in-Ok-clause-rejected c = λ is.
-    let s = c.self.inside in
-    let i = c.self.invariant.0 in
-    let g = c.settle_with in
-    rw (← c.self.view_is)
-    (rw (c.plain-in-Ok.ensures, c.in-Ok.ensures.settled)
-    (settle-answers (the_view s) s.store g.new.store s.scopes (map_of s.references) s.tsfn_roots s.registry.parts.attachments s.exceptions.pending
-    s.registry.parts.promises (call_of.RejectDeferred c.args.deferred c.args.value) c.args.deferred c.args.value c.args.state c.in-Some.value.0
-    c.in-Ok.promise.0 (rejecting c.args.deferred c.args.value c.args.state is) g.ensures.keeps.values c.invariant.ensures i.referred i.rooted
+    s.registry.parts.promises (settling_call c.args.state d c.args.value) d c.args.value c.args.state c.in-Some.value.0
+    c.in-Ok.promise.0 (settling-call d c.args.value c.args.state c.requires.state) g.ensures.keeps.values c.invariant.ensures i.referred i.rooted
     c.self.invariant.1 i.pending c.self.invariant.3 c.in-Some.ensures c.in-Ok.ensures.promise g.ensures.heap))
