@@ -98,6 +98,7 @@ sound-delivery e d alone uncalled there lasts s = record {
     others = s.hooked.others;
     attached = s.hooked.attached;
     instances = s.hooked.instances;
+    reactions = s.hooked.reactions;
     async = s.hooked.async;
   };
   gone = λ g. absurd (lasts g);

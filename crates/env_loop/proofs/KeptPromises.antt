@@ -1,5 +1,6 @@
 -- Nobody is lost in a run that came to its end.
 use Rattle.std.proofs.Common.{List}
+use Rattle.napi_types.proofs.all_runs.PromiseRuns.{promises-kept}
 use Rattle.napi_types.proofs.all_runs.SettledHooks.{hooks-settled}
 use Rattle.napi_types.specs.declared.call.Ask.{Ask}
 use Rattle.napi_types.specs.declared.entry.Entry.{Entry}
@@ -26,4 +27,5 @@ keeps-promises s asks xs ended =
       completed = λ n. starts-told s asks xs n ended;
       cancels = cancels-told s asks xs ended;
       settled = hooks-settled s asks xs ended.run;
+      promised = promises-kept s asks xs ended;
     }

@@ -73,6 +73,7 @@ sound-unrooted n e s = record {
     others = s.hooked.others;
     attached = s.hooked.attached;
     instances = s.hooked.instances;
+    reactions = s.hooked.reactions;
     async = s.hooked.async;
   };
   gone = s.gone;

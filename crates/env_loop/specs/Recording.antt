@@ -1,6 +1,7 @@
 -- A run as it is recorded: the environment's core, the history, and what contracts see of the addons.
 use Rattle.std.specs.Prelude.{◌≡◌, ℕ, ◌<◌, List, ◌++◌, length, map, Some, None, IsTrue}
 use Rattle.napi_types.specs.all_runs.AbandonedHooks.{SettlesHooks}
+use Rattle.napi_types.specs.all_runs.SettledPromises.{SettlesPromises, told_along}
 use Rattle.napi_types.specs.declared.call.Ask.{Ask}
 use Rattle.napi_types.specs.declared.duties.DueInfo.{DueInfo}
 use Rattle.napi_types.specs.declared.entry.Duty.TheVariants as duty
@@ -95,8 +96,8 @@ pub record KeepsPromises (s : Setting) (asks : List Ask) (trace : List Entry) : 
   pub counted : TicketsCount trace
   pub hooks : HooksFall trace
   pub finals : FinalsRise trace
-  -- each completion, item, function's finalizer, finalizer and hook that was made and not withdrawn began exactly once, one that was withdrawn never, and no
-  -- other duty began
+  -- each completion, item, function's finalizer, finalizer, hook and reaction that was made and not withdrawn began exactly once, one that was withdrawn never,
+  -- and no other duty began
   pub once : Once trace
   -- the items of each thread-safe function count from 1 as they were accepted, and began in that order
   pub items : (f : ℕ) → CountItems f trace
@@ -106,6 +107,8 @@ pub record KeepsPromises (s : Setting) (asks : List Ask) (trace : List Entry) : 
   pub cancels : CancelsHold trace
   -- where the drain comes each asynchronous hook that began was removed by an accepted call, or was one of those that `abandon` counted
   pub settled : SettlesHooks trace
+  -- each deferred is settled once at most, and each reaction that is added to a promise begins, and is told how that was settled
+  pub promised : SettlesPromises (told_along (opening_of s) asks trace)
 
 -- a run that came to its end, as it is left: the weave of the two lists is a run of the script to `gone`, which keeps what it promises. The journal stands in
 -- the order of its places, each entry of it in its place, each list has its own entries, the registers of the script's addons are the run's, and each addon has

@@ -12,4 +12,5 @@ pub mod Joined
 pub mod Laws
 pub mod OnceLaws
 pub mod Order
+pub mod SettledPromises
 pub mod TurnsInOrder

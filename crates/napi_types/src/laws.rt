@@ -1,5 +1,6 @@
 //! What the machine's definitions come to over all runs, as laws: each function does nothing, and its contract states a law.
 ghost use Rattle.napi_types.specs.all_runs.AbandonedHooks.{HooksAreSettled};
+ghost use Rattle.napi_types.specs.all_runs.SettledPromises.{PromisesAreSettled};
 ghost use Rattle.napi_types.specs.all_runs.Laws.{RoomSuffices, CollectionsKeepWhatIsReached, TicketsAreOnce, WithdrawnByTheirCalls, EveryDutyIsOnce, TicketsBeginInOrder, TicketsAreCounted};
 
 /// Where the limits have room for the events that every run has, entries and reserved places stay within them at the end
@@ -15,7 +16,7 @@ pub fn collections_keep_what_is_reached()
     ensures { CollectionsKeepWhatIsReached }
 {}
 
-/// In every run to its end each finalizer and each hook that is made and not withdrawn begins exactly once; one that is withdrawn was made, and never
+/// In every run to its end each finalizer, each hook and each reaction that is made and not withdrawn begins exactly once; one that is withdrawn was made, and never
 /// begins; and no other ticket begins. So it is whatever the addons do.
 pub fn tickets_are_once()
     ensures { TicketsAreOnce }
@@ -49,4 +50,11 @@ pub fn tickets_are_counted()
 /// `remove_async_cleanup_hook`, or was one of those that `abandon` counted.
 pub fn asynchronous_hooks_are_settled()
     ensures { HooksAreSettled }
+{}
+
+/// In every run to its end each deferred is settled once at most, and each reaction that is added to a promise begins: after the reactions of that promise
+/// that were added before it, with the state with which the promise was settled before, and with state 0, of a promise that was not settled, only once
+/// `finals` came. The value that its frame is told is the one that settled the promise.
+pub fn promises_are_settled()
+    ensures { PromisesAreSettled }
 {}

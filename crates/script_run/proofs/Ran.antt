@@ -86,6 +86,7 @@ ran-of script texts handed after left small counted enough ended loaded others t
         completed = e.promises.completed;
         cancels = e.promises.cancels;
         settled = e.promises.settled;
+        promised = e.promises.promised;
       };
       loaded = loaded;
       others = others;

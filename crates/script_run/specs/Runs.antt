@@ -1,6 +1,7 @@
 -- The run of a script with the addons that were handed in, as its two lists tell it.
 use Rattle.std.specs.Prelude.{◌≡◌, ◌≤◌, ◌<◌, ◌^◌, ℕ, List, ◌++◌, length, map, drop, slice_get, true, Some, None, IfSome}
 use Rattle.napi_types.specs.all_runs.AbandonedHooks.{SettlesHooks}
+use Rattle.napi_types.specs.all_runs.SettledPromises.{SettlesPromises, told_along}
 use Rattle.napi_types.specs.declared.call.Ask.{Ask}
 use Rattle.napi_types.specs.declared.duties.DueInfo.{DueInfo}
 use Rattle.napi_types.specs.declared.entry.Actor.{Actor}
@@ -54,9 +55,9 @@ pub record IsRunOf (script : Script) (handed : List Plan) (left : Record) (regis
   pub counted : TicketsCount (weave left.journal left.history)
   pub hooks : HooksFall (weave left.journal left.history)
   pub finals : FinalsRise (weave left.journal left.history)
-  -- each completion, item, function's finalizer, finalizer and hook that was made and not withdrawn began exactly once, one that was withdrawn never, and no
-  -- other duty began; none was made twice, and only an accepted `remove_wrap`, `set_instance_data`, `remove_env_cleanup_hook` or `remove_async_cleanup_hook`
-  -- withdrew one
+  -- each completion, item, function's finalizer, finalizer, hook and reaction that was made and not withdrawn began exactly once, one that was withdrawn never,
+  -- and no other duty began; none was made twice, and only an accepted `remove_wrap`, `set_instance_data`, `remove_env_cleanup_hook` or
+  -- `remove_async_cleanup_hook` withdrew one
   pub once : Once (weave left.journal left.history)
   -- the items of each thread-safe function count from 1 as they were accepted, and began in that order
   pub items : (f : ℕ) → CountItems f (weave left.journal left.history)
@@ -67,6 +68,9 @@ pub record IsRunOf (script : Script) (handed : List Plan) (left : Record) (regis
   -- where the drain came each asynchronous hook that began was removed by an accepted call, or was one of those that `abandon` counted, which came once at
   -- most
   pub settled : SettlesHooks (weave left.journal left.history)
+  -- each deferred was settled once at most; each reaction that was added to a promise began once, after the earlier ones of that promise, with the state with
+  -- which the promise was settled before, or with 0 after `finals` where it was not; and what its frame was told is the value that settled the promise
+  pub promised : SettlesPromises (told_along (opening_of (setting_of script handed)) asks (weave left.journal left.history))
   -- the entries of each thread are the calls of its script, in their order, each once, and then its end. It ended cut only where the next call had no room, and
   -- as full exactly there, or might want memory
   pub threads : (t : ℕ) (operations : List Op) → slice_get script.threads t ≡ Some operations → MadeItsScript (setting_of script handed) t operations left.history

@@ -41,12 +41,12 @@ TicketsAreCounted = (s : Setting) (bs : List Ask) (xs : List Entry) → RunsBy s
 abbrev pub TicketsBeginInOrder : Type 0
 TicketsBeginInOrder = (s : Setting) (bs : List Ask) (xs : List Entry) → RunsBy s bs xs → HooksFall xs × FinalsRise xs
 
--- a ticket: the duty of a finalizer or of a hook
+-- a ticket: the duty of a finalizer, of a hook or of a reaction
 abbrev pub is_ticket : Duty → Bool
 is_ticket (duty.Ticket t) = true
 is_ticket _ = false
 
--- in every run to its end each finalizer and each hook that is made and not withdrawn begins exactly once, and one that is withdrawn never
+-- in every run to its end each finalizer, each hook and each reaction that is made and not withdrawn begins exactly once, and one that is withdrawn never
 abbrev pub TicketsAreOnce : Type 0
 TicketsAreOnce = (s : Setting) (bs : List Ask) (xs : List Entry) → EndsBy s bs xs → (t : Ticket) → IsOnce (duty.Ticket t) xs
 
