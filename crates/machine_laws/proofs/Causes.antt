@@ -14,7 +14,7 @@ use Rattle.napi_types.specs.declared.entry.Phase.{Phase}
 use Rattle.napi_types.specs.declared.entry.Phase.TheVariants as phase
 use Rattle.napi_types.specs.declared.entry.What.TheVariants as what
 use Rattle.napi_types.specs.plain.Entries.{host_entry}
-use Rattle.napi_types.specs.parts.Book.{Registration, is_registered, is_due, is_owed, registration_at, due_info, cause_at}
+use Rattle.napi_types.specs.parts.Book.{Registration, ticket_duty, is_registered, is_due, is_owed, registration_at, due_info, cause_at}
 use Rattle.napi_types.specs.parts.Frames.{frame_of_duty, begin_told}
 use Rattle.napi_types.specs.parts.Hooks.{Hook, last_hook}
 use Rattle.napi_types.specs.environment.Environment.{Environment}
@@ -32,6 +32,7 @@ use Rattle.napi_types.proofs.all_runs.Orderly.{is_drained, IsSpent, Orderly, ord
 use Rattle.napi_types.proofs.all_runs.Orders.{none-due}
 use Rattle.machine_laws.specs.Choices.{begins_due_tickets_in, IsOfTicket, IsOfHook, BeginsLowest, BeginsLastHook, BeginsOfHub}
 use Rattle.machine_laws.specs.FinalizerLaws.{FinalizersBeginInTheLoopOrAtTheEnd, HooksBeginAfterTheLoop}
+use Rattle.machine_laws.specs.PromiseLaws.{ReactionsBeginInTheLoopOrAtTheEnd}
 use Rattle.machine_laws.proofs.BeginningFrames.{lowest-first, hook-first, tickets-begin}
 
 -- the cause that a begin tells
@@ -87,6 +88,27 @@ finalizers-begin s bs xs a x addon entry d run next is told = by (tickets-begin 
         let t : IsOfHook m hook.hook x = hook-first m hook.hook a x hook.alone hook.moment hook.last (begin-env m a x next is) next in
         let other : cause.Finalize ≡ cause.Hook =
         sym (of-ticket x hook.hook.ticket t.registration cause.Finalize addon entry d told t.entry)
+        ∙ hook-cause m.env hook.hook t.registration (orderly-run s bs xs run).hooked hook.last t.there in
+        absurd cc
+
+pub reactions-begin : ReactionsBeginInTheLoopOrAtTheEnd
+reactions-begin s bs xs a x addon entry ticket run next is told = by (tickets-begin m a x cause.Reaction addon entry d next is told)
+  where
+    m : Machine
+    m = final_of s bs xs
+
+    d : Duty
+    d = ticket_duty ticket
+
+    by : BeginsLowest m d ⊎ BeginsLastHook m d ⊎ BeginsOfHub m d x → BeginsLowest m d
+    by (inl lowest) = lowest
+    by (inr (inr hub)) =
+        let no : false ≡ true = hub.ours in
+        absurd cc
+    by (inr (inl hook)) =
+        let t : IsOfHook m hook.hook x = hook-first m hook.hook a x hook.alone hook.moment hook.last (begin-env m a x next is) next in
+        let other : cause.Reaction ≡ cause.Hook =
+        sym (of-ticket x hook.hook.ticket t.registration cause.Reaction addon entry d told t.entry)
         ∙ hook-cause m.env hook.hook t.registration (orderly-run s bs xs run).hooked hook.last t.there in
         absurd cc
 

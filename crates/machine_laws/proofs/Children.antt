@@ -1,12 +1,12 @@
 -- What a value names, as it changes.
-use Rattle.std.proofs.Common.{◌≡◌, ℕ, ◌+◌, ◌-◌, ◌==◌, Bool, true, false, cond, not, List, [], ◌∷◌, ◌++◌, length, map, filter, replicate, refl, sym, subst, inl, inr, Option, Some, None}
+use Rattle.std.proofs.Common.{◌≡◌, ℕ, ◌+◌, ◌-◌, ◌==◌, Bool, true, false, cond, not, List, [], ◌∷◌, ◌++◌, length, map, filter, replicate, refl, sym, subst, inl, inr, Option, Some, None, option_to_list}
 use Rattle.std.specs.List.{All, filter_map}
 use Rattle.std.specs.Option.{IfSome, unwrap_or}
 use Rattle.std.proofs.lemmas.Bool.{cases_lt}
 use Rattle.std.proofs.lemmas.List.{get_or_past}
 use Rattle.std.proofs.lemmas.List.Elements.{All-nil, All-cons, All-head, All-tail, All-append, All-set, All-replicate, All-get_or}
 use Rattle.napi_types.specs.parts.Properties.{Property, property_at, property_set, property_removed, element_at, element_set}
-use Rattle.napi_types.specs.parts.Values.{Value, children, with_property, without_property, with_element, with_link, properties_of, elements_of}
+use Rattle.napi_types.specs.parts.Values.{Value, children, with_property, without_property, with_element, with_link, properties_of, elements_of, link_of}
 use Rattle.napi_types.proofs.parts.ChildParts.{children-of, properties-of, elements-of, link-of}
 
 -- the numbers that properties, and elements, name
@@ -121,7 +121,7 @@ keeps-link P to here = record {
   children = λ v all. children-of P (with_link to v) (properties-of P v all) (elements-of P v all) (All-cons P to [] here (All-nil P));
 }
 
--- the properties and elements of any number
+-- the properties and elements of any number, and its link
 pub properties-at : (P : ℕ → Type 0) (n : ℕ) (vs : List Value) → All (OfChildren P) vs → OfProperties P (properties_of vs n)
 properties-at P n [] all = All-nil P
 properties-at P n (v ∷ vs) all = by (v.number == n) refl (properties-at P n vs (All-tail (OfChildren P) v vs all))
@@ -136,4 +136,16 @@ elements-at P n (v ∷ vs) all = by (v.number == n) refl (elements-at P n vs (Al
   where
     by : (b : Bool) → (v.number == n) ≡ b → OfElements P (elements_of vs n) → OfElements P (elements_of (v ∷ vs) n)
     by true same later = rw same (elements-of P v (All-head (OfChildren P) v vs all))
+    by false other later = rw other later
+
+pub link-at : (P : ℕ → Type 0) (n : ℕ) (vs : List Value) → All (OfChildren P) vs → IfSome (link_of vs n) P
+link-at P n [] all = tt
+link-at P n (v ∷ vs) all = by (v.number == n) refl (link-at P n vs (All-tail (OfChildren P) v vs all))
+  where
+    to-some : (o : Option ℕ) → All P (option_to_list o) → IfSome o P
+    to-some None h = tt
+    to-some (Some m) h = All-head P m [] h
+
+    by : (b : Bool) → (v.number == n) ≡ b → IfSome (link_of vs n) P → IfSome (link_of (v ∷ vs) n) P
+    by true same later = rw same (to-some v.link (link-of P v (All-head (OfChildren P) v vs all)))
     by false other later = rw other later

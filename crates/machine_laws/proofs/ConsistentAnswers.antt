@@ -1,7 +1,7 @@
 -- Every call keeps environments good.
-use Rattle.std.proofs.Common.{◌≡◌, ◌≤◌, arith, ℕ, ◌+◌, ◌==◌, Bool, true, false, cond, not, List, [], ◌∷◌, length, refl, sym, ◌∙◌, Option, Some, None, option_map, slice_index_or, subst}
+use Rattle.std.proofs.Common.{◌≡◌, ◌<◌, ◌≤◌, arith, ℕ, ◌+◌, ◌==◌, Bool, true, false, cond, not, List, [], ◌∷◌, length, refl, sym, ◌∙◌, Option, Some, None, option_map, slice_index_or, subst}
 use Rattle.std.specs.List.{All}
-use Rattle.std.specs.Option.{IfSome, unwrap_or}
+use Rattle.std.specs.Option.{IfSome, unwrap_or, option_and_then}
 use Rattle.std.proofs.lemmas.List.Elements.{All-append, All-cons, All-nil, All-head, All-tail, All-filter, All-map, All-weaker}
 use Rattle.std.proofs.lemmas.Option.{IfSome_then}
 use Rattle.napi_types.specs.declared.body.Body.TheVariants as body
@@ -12,20 +12,23 @@ use Rattle.napi_types.specs.declared.ids.TextNo.{TextNo}
 use Rattle.napi_types.specs.plain.Lists.{found}
 use Rattle.napi_types.specs.plain.Replies.{accepts}
 use Rattle.napi_types.specs.parts.Bodies.{promise_tag}
+use Rattle.napi_types.specs.parts.Book.{new_ticket}
 use Rattle.napi_types.specs.parts.Frames.{caller_of, most_frames}
 use Rattle.napi_types.specs.parts.Heap.{Heap, handle_value}
 use Rattle.napi_types.specs.parts.HeapChanges.{with_handle, with_thrown, thrown_number}
 use Rattle.napi_types.specs.parts.AsyncHooks.{set_ticket, with_removed}
 use Rattle.napi_types.specs.parts.Hooks.{hook_ticket}
 use Rattle.napi_types.specs.parts.Promises.{Promises, with_promise, with_settled}
+use Rattle.napi_types.specs.parts.Reach.{numbers}
 use Rattle.napi_types.specs.parts.References.{Reference, ReferenceMap, with_reference, without_reference, with_count}
-use Rattle.napi_types.specs.parts.Values.{undefined_value, linked_value, with_link}
+use Rattle.napi_types.specs.parts.Values.{undefined_value, linked_value, with_link, link_of}
 use Rattle.napi_types.specs.environment.Calls.{effect, answer}
 use Rattle.napi_types.specs.environment.Changes.{call_change}
 use Rattle.napi_types.specs.environment.Environment.{TsfnRoot, Environment, with_heap}
 use Rattle.napi_types.specs.environment.ExceptionCalls.{with_pending, with_thrown_error}
 use Rattle.napi_types.specs.environment.HookCalls.{unhooked}
-use Rattle.napi_types.specs.environment.PromiseCalls.{with_new_promise, with_settler}
+use Rattle.napi_types.specs.environment.Hooked.{IsHooked}
+use Rattle.napi_types.specs.environment.PromiseCalls.{with_promises, with_new_promise, with_settler, with_reaction_to, reacted_promise}
 use Rattle.napi_types.specs.environment.ReferenceCalls.{with_references}
 use Rattle.napi_types.specs.environment.Registering.{withdrawing}
 use Rattle.napi_types.specs.environment.Registry.{registry_of, with_registry}
@@ -34,13 +37,15 @@ use Rattle.napi_types.proofs.environment.Cases.{answer-by}
 use Rattle.napi_types.proofs.environment.Effects as does
 use Rattle.napi_types.proofs.environment.Effects.{Effect, registered-by, effect-of}
 use Rattle.machine_laws.specs.Consistency.{IsConsistent, IsLiveAmong, IsMap, ArePromisesOf}
-use Rattle.machine_laws.proofs.Children.{KeepsChildren, keeps-link}
+use Rattle.machine_laws.proofs.Children.{KeepsChildren, keeps-link, link-at}
 use Rattle.machine_laws.proofs.Collected.{heap-kept, referred-kept, pending-kept, rooted-kept}
 use Rattle.machine_laws.proofs.ConsistentCalls.{heap-call, handle-live, or-undefined}
 use Rattle.machine_laws.proofs.ConsistentHeaps.{IsConsistentHeap, HandlesStay, ComesTo, stays, with-handle}
 use Rattle.machine_laws.proofs.ConsistentValues.{with-new, with-new-linked, with-one-changed, with-thrown, thrown-live}
+use Rattle.machine_laws.proofs.KeptLinks.{KeepsLinks, heap-links, link-none, links-more, thrown-links}
 use Rattle.machine_laws.proofs.LiveNumbers.{live-pushed}
-use Rattle.machine_laws.proofs.PromiseMaps.{left-promised, more-promised, settled-promised, wider-promised}
+use Rattle.machine_laws.proofs.PromiseMaps.{left-promised, more-promised, reacted-promised, settled-promised, wider-promised}
+use Rattle.machine_laws.proofs.Reactions.{AreBelow, all-below}
 use Rattle.machine_laws.proofs.Rising.{more-map, fewer-map, counted-map, emptied-map}
 
 -- what holds of an environment, but what is said of its frames
@@ -87,9 +92,10 @@ whole-of e g same few = record {
 unmoved : (e : Environment) → IsConsistentButFrames e → LeadsToGood e e
 unmoved e g = record { good = g; stay = stays e.heap }
 
--- another heap
-pub in-heap : (e : Environment) (heap : Heap) → IsConsistentButFrames e → ComesTo e.heap heap → LeadsToGood e (with_heap e heap)
-in-heap e heap g c =
+-- another heap, and other promises
+in-heap-with : (e : Environment) (heap : Heap) (p : Promises) → IsConsistentButFrames e → ComesTo e.heap heap → ArePromisesOf heap.values p
+    → LeadsToGood e (with_promises heap p e)
+in-heap-with e heap p g c fit =
     let P : Reference → Type 0 = λ r. IfSome r.value (IsLiveAmong e.heap.values) in
     let Q : Reference → Type 0 = λ r. IfSome r.value (IsLiveAmong heap.values) in
     record {
@@ -100,10 +106,19 @@ in-heap e heap g c =
         pending = IfSome_then e.pending g.pending c.live;
         rooted = All-weaker (λ (r : TsfnRoot). IsLiveAmong e.heap.values r.value) (λ r. IsLiveAmong heap.values r.value)
             (λ r h. c.live r.value h) e.tsfn_roots g.rooted;
-        promises = wider-promised e.heap.values heap.values e.promises c.live g.promises;
+        promises = fit;
       };
       stay = c.stay;
     }
+
+-- another heap, where no link changes
+pub in-heap : (e : Environment) (heap : Heap) → IsConsistentButFrames e → ComesTo e.heap heap → KeepsLinks e.heap.values heap.values
+    → LeadsToGood e (with_heap e heap)
+in-heap e heap g c links = in-heap-with e heap e.promises g c (wider-promised e.heap.values heap.values e.promises c.live links g.promises)
+
+-- a handle more
+handled : (e : Environment) (v : ℕ) → IsConsistentButFrames e → IsLiveAmong e.heap.values v → LeadsToGood e (with_heap e (with_handle v e.heap))
+handled e v g live = in-heap e (with_handle v e.heap) g (with-handle e.heap v g.heap live) (λ n here. refl)
 
 -- another pending exception
 pub with-pending : (e : Environment) (o : Option ℕ) → IsConsistentButFrames e → IfSome o (IsLiveAmong e.heap.values) → IsConsistentButFrames (with_pending o e)
@@ -112,7 +127,7 @@ with-pending e o g live = record { heap = g.heap; referred = g.referred; referen
 thrown-good : (e : Environment) (code : Option TextNo) (message : TextNo) → IsConsistentButFrames e → LeadsToGood e (with_thrown_error code message e)
 thrown-good e code message g =
     let heap : Heap = with_thrown code message e.heap in
-    let led : LeadsToGood e (with_heap e heap) = in-heap e heap g (with-thrown e.heap code message g.heap) in
+    let led : LeadsToGood e (with_heap e heap) = in-heap e heap g (with-thrown e.heap code message g.heap) (thrown-links e.heap code message) in
     record { good = with-pending (with_heap e heap) (Some (thrown_number code message e.heap)) led.good (thrown-live e.heap code message); stay = led.stay }
 
 -- REFERENCES
@@ -190,29 +205,43 @@ with-promises e d p led fit =
       stay = led.stay;
     }
 
+-- the value that settled the promise of a reaction is live, as a child of that promise
+read-live : (e : Environment) (o : Option ℕ) (v : ℕ) → option_and_then (link_of e.heap.values) o ≡ Some v → IsConsistentHeap e.heap
+    → IsLiveAmong e.heap.values v
+read-live e None v is g = cc
+read-live e (Some p) v is g =
+    let P : ℕ → Type 0 = IsLiveAmong e.heap.values in
+    subst (λ o. IfSome o P) is (link-at P p e.heap.values g.children)
+
+-- the values that are there have numbers below that of the next one
+below-next : (heap : Heap) → IsConsistentHeap heap → All (λ k. k < heap.made + 1) (numbers heap.values)
+below-next heap g =
+    All-weaker (λ k. (0 < k) × (k ≤ heap.made)) (λ k. k < heap.made + 1) (λ k within. omega (arith, within.1)) (numbers heap.values) g.values.within
+
 -- CALLS
-does-good : (c : Call) (e : Environment) {made dropped : Option Duty} (d : Environment) → Effect c e made dropped d → IsConsistentButFrames e → LeadsToGood e d
-does-good c e _ does.rests g = unmoved e g
-does-good c e _ (does.tells k) g = in-heap e _ g (heap-call (caller_of e.frames) e.heap c k g.heap)
-does-good c e _ (does.makes payload) g = in-heap e _ g (with-new e.heap (body.External payload) g.heap)
-does-good c e _ (does.throws h) g = record { good = with-pending e (Some (handle_value e.heap h)) g (handle-live e.heap h g.heap); stay = stays e.heap }
-does-good c e _ (does.raises code message) g = thrown-good e code message g
-does-good c e _ does.clears g =
+does-good : (c : Call) (e : Environment) {made dropped : Option Duty} (d : Environment) → Effect c e made dropped d
+    → All (AreBelow (new_ticket e.book)) e.promises.promises → IsConsistentButFrames e → LeadsToGood e d
+does-good c e _ does.rests below g = unmoved e g
+does-good c e _ (does.tells k) below g = in-heap e _ g (heap-call (caller_of e.frames) e.heap c k g.heap) (heap-links (caller_of e.frames) e.heap c k)
+does-good c e _ (does.makes payload) below g = in-heap e _ g (with-new e.heap (body.External payload) g.heap) (links-more e.heap.values _)
+does-good c e _ (does.throws h) below g = record { good = with-pending e (Some (handle_value e.heap h)) g (handle-live e.heap h g.heap); stay = stays e.heap }
+does-good c e _ (does.raises code message) below g = thrown-good e code message g
+does-good c e _ does.clears below g =
     let v : ℕ = unwrap_or e.pending undefined_value in
-    let led : LeadsToGood e (with_heap e (with_handle v e.heap)) = in-heap e _ g (with-handle e.heap v g.heap (or-undefined e.heap e.pending g.heap g.pending)) in
+    let led : LeadsToGood e (with_heap e (with_handle v e.heap)) = handled e v g (or-undefined e.heap e.pending g.heap g.pending) in
     record { good = with-pending _ None led.good tt; stay = led.stay }
-does-good c e _ (does.recalls r v is) g =
+does-good c e _ (does.recalls r v is) below g =
     let Live : Option ℕ → Type 0 = λ o. IfSome o (IsLiveAmong e.heap.values) in
-    in-heap e _ g (with-handle e.heap v g.heap (subst Live is (row-of Live r e.references.rows tt g.referred)))
-does-good c e _ (does.refers n h count) g =
+    handled e v g (subst Live is (row-of Live r e.references.rows tt g.referred))
+does-good c e _ (does.refers n h count) below g =
     referring e _ g
     (rows-more (λ o. IfSome o (IsLiveAmong e.heap.values)) n (handle_value e.heap h) count e.references (handle-live e.heap h g.heap) g.referred)
     (more-map n (handle_value e.heap h) count e.references g.references)
-does-good c e _ (does.deletes r) g =
+does-good c e _ (does.deletes r) below g =
     referring e _ g (rows-fewer (λ o. IfSome o (IsLiveAmong e.heap.values)) r e.references g.referred) (fewer-map r e.references g.references)
-does-good c e _ (does.counts r count) g =
+does-good c e _ (does.counts r count) below g =
     referring e _ g (rows-counted (λ o. IfSome o (IsLiveAmong e.heap.values)) r count e.references g.referred) (counted-map r count e.references g.references)
-does-good c e _ does.collects g = record {
+does-good c e _ does.collects below g = record {
   good = record {
     heap = heap-kept e g.heap;
     referred = referred-kept e;
@@ -223,47 +252,57 @@ does-good c e _ does.collects g = record {
   };
   stay = record { rises = omega arith; held = λ h v below. omega arith };
 }
-does-good c e _ (does.promises n) g =
+does-good c e _ (does.promises n) below g =
     let v : ℕ = e.heap.made + 1 in
     let heap : Heap = with_new_promise e.heap in
-    let led : LeadsToGood e (with_heap e heap) = in-heap e heap g (with-new-linked e.heap promise_tag g.heap) in
-    with-promises e (with_heap e heap) (with_promise v n e.promises) led
-    (more-promised v n heap.values e.promises (live-pushed e.heap.values (linked_value v promise_tag None)) led.good.promises)
-does-good c e _ (does.settles n h state p is) g =
+    let comes : ComesTo e.heap heap = with-new-linked e.heap promise_tag g.heap in
+    let before : ArePromisesOf heap.values e.promises =
+    wider-promised e.heap.values heap.values e.promises comes.live (links-more e.heap.values _) g.promises in
+    let live : IsLiveAmong heap.values v = live-pushed e.heap.values (linked_value v promise_tag None) in
+    let none : link_of heap.values v ≡ None = link-none v promise_tag e.heap.values (below-next e.heap g.heap) in
+    in-heap-with e heap (with_promise v n e.promises) g comes (more-promised v n heap.values e.promises live none before)
+does-good c e _ (does.settles n h state p is) below g =
     let v : ℕ = handle_value e.heap h in
     let heap : Heap = with_settler p v e.heap in
     let keeps : KeepsChildren (IsLiveAmong e.heap.values) (with_link v) = keeps-link (IsLiveAmong e.heap.values) v (handle-live e.heap h g.heap) in
-    let led : LeadsToGood e (with_heap e heap) = in-heap e heap g (with-one-changed e.heap p (with_link v) keeps g.heap) in
-    with-promises e (with_heap e heap) (with_settled n p state e.promises) led (settled-promised n p state heap.values e.promises is led.good.promises)
-does-good c e _ (does.adds_hook entry argument) g = besides e e _ refl refl (unmoved e g)
-does-good c e _ (does.removes_hook entry argument) g =
+    let comes : ComesTo e.heap heap = with-one-changed e.heap p (with_link v) keeps g.heap in
+    let fit : ArePromisesOf heap.values (with_settled n p state e.promises) = settled-promised n p state v e.heap.values e.promises is comes.live g.promises in
+    besides e (with_promises heap (with_settled n p state e.promises) e) _ refl refl (in-heap-with e heap _ g comes fit)
+does-good c e _ (does.reacts v entry payload) below g =
+    besides e (with_reaction_to v e) _ refl refl
+    (with-promises e e _ (unmoved e g) (reacted-promised v (new_ticket e.book) e.heap.values e.promises below g.promises))
+does-good c e _ (does.reads v is) below g = handled e v g (read-live e (reacted_promise e) v is g.heap)
+does-good c e _ (does.adds_hook entry argument) below g = besides e e _ refl refl (unmoved e g)
+does-good c e _ (does.removes_hook entry argument) below g =
     let t : Option ℕ = hook_ticket (caller_of e.frames) entry argument e.hooks in
     registered-by e.book t (λ s. LeadsToGood e (withdrawing s (accepts out.Nothing (record e { hooks = unhooked t e.hooks }))).after)
     (besides e e _ refl refl (unmoved e g)) (λ n here is. besides e e _ refl refl (unmoved e g))
-does-good c e _ (does.adds_async entry argument number is) g = besides e e _ refl refl (unmoved e g)
-does-good c e _ (does.removes_async number) g =
+does-good c e _ (does.adds_async entry argument number is) below g = besides e e _ refl refl (unmoved e g)
+does-good c e _ (does.removes_async number) below g =
     let t : Option ℕ = set_ticket number e.async_hooks in
     let left : Environment = record e { hooks = unhooked t e.hooks; async_hooks = with_removed number e.async_hooks } in
     registered-by e.book t (λ s. LeadsToGood e (withdrawing s (accepts out.Nothing left)).after)
     (besides e e _ refl refl (unmoved e g)) (λ n here is. besides e e _ refl refl (unmoved e g))
-does-good c e _ (does.withdraws t on is) g = besides e e _ refl refl (unmoved e g)
-does-good c e _ (does.asks_exit is) g = besides e e _ refl refl (unmoved e g)
-does-good c e _ (does.registers {d} payload entry hint before step) g = besides e d _ refl refl (does-good c e d before g)
-does-good c e _ (does.attaches {d} {a} before on) g = besides e d _ refl refl (does-good c e d before g)
-does-good c e _ (does.sets {d} i before on) g = besides e d _ refl refl (does-good c e d before g)
+does-good c e _ (does.withdraws t on is) below g = besides e e _ refl refl (unmoved e g)
+does-good c e _ (does.asks_exit is) below g = besides e e _ refl refl (unmoved e g)
+does-good c e _ (does.registers {d} payload entry hint before step) below g = besides e d _ refl refl (does-good c e d before below g)
+does-good c e _ (does.attaches {d} {a} before on) below g = besides e d _ refl refl (does-good c e d before below g)
+does-good c e _ (does.sets {d} i before on) below g = besides e d _ refl refl (does-good c e d before below g)
 
-answer-good : (e : Environment) (c : Call) (k : ℕ) → IsConsistentButFrames e → LeadsToGood e (answer e c k).after
-answer-good e c k g =
-    answer-by e c k (λ a. LeadsToGood e a.after) (λ s. unmoved e g) (λ s. thrown-good e None _ g) (λ none. does-good c e (effect e c k).after (effect-of e c k) g)
+answer-good : (e : Environment) (c : Call) (k : ℕ) → All (AreBelow (new_ticket e.book)) e.promises.promises → IsConsistentButFrames e
+    → LeadsToGood e (answer e c k).after
+answer-good e c k below g =
+    answer-by e c k (λ a. LeadsToGood e a.after) (λ s. unmoved e g) (λ s. thrown-good e None _ g)
+    (λ none. does-good c e (effect e c k).after (effect-of e c k) below g)
 
 -- one environment leads to another, which is consistent
 pub record LeadsToConsistent (old new : Environment) : Type 0 where
   pub good : IsConsistent new
   pub stay : HandlesStay old.heap new.heap
 
-pub call_change-follows : (e : Environment) (c : Call) (k : ℕ) → IsConsistent e → LeadsToConsistent e (call_change e c k).after
-call_change-follows e c k old =
-    let led : LeadsToGood e _ = answer-good e c k (parts-of e old) in
+pub call_change-follows : (e : Environment) (c : Call) (k : ℕ) → IsHooked e → IsConsistent e → LeadsToConsistent e (call_change e c k).after
+call_change-follows e c k hooked old =
+    let led : LeadsToGood e _ = answer-good e c k (all-below e hooked) (parts-of e old) in
     let new : Environment = (call_change e c k).after in
     let keeps : KeepsButAsk c e (call_change e c k).entry.reply new = call_change-keeps e c k in
     let good : IsConsistentButFrames new = record {

@@ -11,6 +11,7 @@ use Rattle.napi_types.specs.runs.Setting.{opens_with, opening_of}
 use Rattle.napi_types.specs.plain.Lists.{is_empty}
 use Rattle.machine_laws.specs.Consistency.{AreIssued, IsConsistent, IsLiveAmong}
 use Rattle.machine_laws.specs.HandleLaws.{EnvironmentsAreConsistent}
+use Rattle.napi_types.proofs.all_runs.Orderly.{orderly-opens}
 use Rattle.napi_types.proofs.plain.Tallies.{tally-append}
 use Rattle.machine_laws.proofs.Children.{OfChildren}
 use Rattle.machine_laws.proofs.Counting.{none-issued, issued-next}
@@ -66,4 +67,5 @@ opening-consistent given =
 -- RUNS
 pub environments-are-consistent : EnvironmentsAreConsistent
 environments-are-consistent s bs xs n run =
-    (run-follows (opening_of s) (take n bs) (take n xs) (steps-prefix (opening_of s) bs xs n run) (opening-consistent (opens_with s))).good
+    (run-follows (opening_of s) (take n bs) (take n xs) (steps-prefix (opening_of s) bs xs n run) (orderly-opens s)
+    (opening-consistent (opens_with s))).good

@@ -1,4 +1,4 @@
--- Every step keeps environments consistent, whether or not it may stand, and so does every run.
+-- Every step of a run keeps environments consistent, and so does every run.
 use Rattle.std.proofs.Common.{◌≡◌, ◌≤◌, arith, ℕ, zero, suc, ◌+◌, ◌==◌, nat_le, not, true, false, Bool, List, [], ◌∷◌, length, take, refl, sym, ◌∙◌, ap, subst, Option, Some, None}
 use Rattle.std.specs.List.{All}
 use Rattle.std.proofs.lemmas.Bool.{leb-false}
@@ -26,11 +26,12 @@ use Rattle.napi_types.specs.parts.Heap.{Heap, handle_value}
 use Rattle.napi_types.specs.parts.AsyncHooks.{AsyncHook}
 use Rattle.napi_types.specs.parts.HeapChanges.{with_handle, with_frame, without_frame}
 use Rattle.napi_types.specs.parts.Hooks.{Hook}
-use Rattle.napi_types.specs.parts.Values.{undefined_value}
+use Rattle.napi_types.specs.parts.Values.{undefined_value, link_of}
 use Rattle.napi_types.specs.environment.Changes.{opening_change, gone_change, in_phase, issued_number, with_noted_status, with_none_waiting}
-use Rattle.napi_types.specs.environment.Ends.{uncut_call_end, end_change, outermost_end_change}
+use Rattle.napi_types.specs.environment.Ends.{uncut_call_end, end_change, outermost_end_change, reaction_ended}
 use Rattle.napi_types.specs.environment.Entering.{enter_change, asked_change}
 use Rattle.napi_types.specs.environment.Environment.{Environment, TsfnRoot}
+use Rattle.napi_types.specs.environment.Hooked.{IsHooked}
 use Rattle.napi_types.specs.environment.Refusals.{refusal, refusal_before_depth, depth_refusal}
 use Rattle.napi_types.specs.environment.Registry.{Registry, registry_of, with_registry}
 use Rattle.napi_types.specs.environment.SharedCalls.{with_root, without_root, after_shared}
@@ -43,6 +44,7 @@ use Rattle.napi_types.specs.runs.Step.{Step, ticket_step, move_step, event_step,
 use Rattle.napi_types.proofs.plain.Lists.{length-changed, length-tail, none-last, not-when}
 use Rattle.napi_types.proofs.environment.Cases.{asked-by, ended-by}
 use Rattle.napi_types.proofs.environment.FrameChanges.{registry_ended}
+use Rattle.napi_types.proofs.all_runs.Orderly.{Orderly, next-orderly}
 use Rattle.napi_types.proofs.runs.Forms as form
 use Rattle.napi_types.proofs.runs.Forms.{Form, form-of}
 use Rattle.napi_types.proofs.runs.Runs.{along-entries}
@@ -51,7 +53,9 @@ use Rattle.machine_laws.specs.Consistency.{IsConsistent, IsLiveAmong, ArePromise
 use Rattle.machine_laws.proofs.ConsistentAnswers.{IsConsistentButFrames, LeadsToConsistent, parts-of, whole-of, in-heap, call_change-follows}
 use Rattle.machine_laws.proofs.ConsistentCalls.{handle-live}
 use Rattle.machine_laws.proofs.ConsistentHeaps.{IsConsistentHeap, ComesTo, HandlesStay, stays, stays-then, and-then, unchanged, with-handle, with-frame, without-frame}
+use Rattle.machine_laws.proofs.KeptLinks.{KeepsLinks}
 use Rattle.machine_laws.proofs.Prefixes.{steps-prefix}
+use Rattle.machine_laws.proofs.PromiseMaps.{ended-promised}
 
 tail-shorter : {A : Type 0} (xs : List A) → length (tail xs) ≤ length xs
 tail-shorter [] = omega arith
@@ -65,11 +69,11 @@ then-follows : (a b c : Environment) → LeadsToConsistent a b → LeadsToConsis
 then-follows a b c one two = record { good = two.good; stay = stays-then a.heap b.heap c.heap one.stay two.stay }
 
 -- THE END OF A FRAME
--- a frame ends, its heap is left for another, an exception that is pending may be cleared, and the registry may change, but for the promises
-ended-follows : (e : Environment) (heap : Heap) (pending : Option ℕ) (s : Status) (r : Registry) → r.promises ≡ e.promises → IsConsistent e
+-- a frame ends, its heap is left for another, an exception that is pending may be cleared, and the registry may change, where its promises fit the values
+ended-follows : (e : Environment) (heap : Heap) (pending : Option ℕ) (s : Status) (r : Registry) → ArePromisesOf heap.values r.promises → IsConsistent e
     → ComesTo e.heap heap → length heap.scopes ≡ length (tail e.heap.scopes) → IsConsistentButFrames (record e { heap = heap; pending = pending })
     → LeadsToConsistent e (record (with_registry e r) { heap = heap; frames = tail e.frames; pending = pending; last = s })
-ended-follows e heap pending s r kept c comes same g =
+ended-follows e heap pending s r fit c comes same g =
     let new : Environment = record (with_registry e r) { heap = heap; frames = tail e.frames; pending = pending; last = s } in
     let good : IsConsistentButFrames new = record {
       heap = g.heap;
@@ -77,7 +81,7 @@ ended-follows e heap pending s r kept c comes same g =
       references = g.references;
       pending = g.pending;
       rooted = g.rooted;
-      promises = subst (ArePromisesOf heap.values) (sym kept) g.promises;
+      promises = fit;
     } in
     record {
       good = whole-of new good (same ∙ length-tail e.heap.scopes e.frames c.frames) (omega (arith, tail-shorter e.frames, c.depth));
@@ -85,11 +89,11 @@ ended-follows e heap pending s r kept c comes same g =
     }
 
 -- .. where it stays pending
-kept-ended : (e : Environment) (heap : Heap) (s : Status) → IsConsistent e → ComesTo e.heap heap → length heap.scopes ≡ length (tail e.heap.scopes)
-    → LeadsToConsistent e (record e { heap = heap; frames = tail e.frames; last = s })
-kept-ended e heap s c comes same =
-    let g : IsConsistentButFrames (record e { heap = heap }) = (in-heap e heap (parts-of e c) comes).good in
-    ended-follows e heap e.pending s (registry_of e) refl c comes same
+kept-ended : (e : Environment) (heap : Heap) (s : Status) → IsConsistent e → ComesTo e.heap heap → KeepsLinks e.heap.values heap.values
+    → length heap.scopes ≡ length (tail e.heap.scopes) → LeadsToConsistent e (record e { heap = heap; frames = tail e.frames; last = s })
+kept-ended e heap s c comes links same =
+    let g : IsConsistentButFrames (record e { heap = heap }) = (in-heap e heap (parts-of e c) comes links).good in
+    ended-follows e heap e.pending s (registry_of e) g.promises c comes same
     (record { heap = g.heap; referred = g.referred; references = g.references; pending = g.pending; rooted = g.rooted; promises = g.promises })
 
 left-live : (e : Environment) (v : Option HandleId) → IsConsistentHeap e.heap → IsLiveAmong e.heap.values (left_value e.heap v)
@@ -102,19 +106,21 @@ left-follows v e c =
     let left : ComesTo e.heap (without_frame e.heap) = without-frame e.heap good in
     let heap : Heap = with_handle (left_value e.heap v) (without_frame e.heap) in
     let given : ComesTo (without_frame e.heap) heap = with-handle (without_frame e.heap) (left_value e.heap v) left.good (left-live e v good) in
-    kept-ended e heap status.Ok c (and-then e.heap (without_frame e.heap) heap left given) (length-changed _ (tail e.heap.scopes))
+    kept-ended e heap status.Ok c (and-then e.heap (without_frame e.heap) heap left given) (λ n live. refl) (length-changed _ (tail e.heap.scopes))
 
 outermost-follows : (cut : Option Why) (e : Environment) → IsConsistent e → LeadsToConsistent e (outermost_end_change cut e).after
 outermost-follows cut e c =
     let left : ComesTo e.heap (without_frame e.heap) = without-frame e.heap (parts-of e c).heap in
-    let g : IsConsistentButFrames (record e { heap = without_frame e.heap }) = (in-heap e (without_frame e.heap) (parts-of e c) left).good in
-    ended-follows e (without_frame e.heap) None e.last (registry_ended (duty_of e.frames) (registry_of e)) refl c left refl
+    let g : IsConsistentButFrames (record e { heap = without_frame e.heap }) = (in-heap e (without_frame e.heap) (parts-of e c) left (λ n live. refl)).good in
+    let fit : ArePromisesOf e.heap.values (reaction_ended (duty_of e.frames) e.promises) =
+    ended-promised (duty_of e.frames) e.heap.values e.promises g.promises in
+    ended-follows e (without_frame e.heap) None e.last (registry_ended (duty_of e.frames) (registry_of e)) fit c left refl
     (record { heap = g.heap; referred = g.referred; references = g.references; pending = tt; rooted = g.rooted; promises = g.promises })
 
 frame-follows : (v : Option HandleId) (cut : Option Why) (e : Environment) → IsConsistent e → LeadsToConsistent e (end_change v cut e).after
 frame-follows v cut e c =
     let cut_short : (s : Status) → LeadsToConsistent e (record e { heap = without_frame e.heap; frames = tail e.frames; last = s }) =
-    λ s. kept-ended e (without_frame e.heap) s c (without-frame e.heap (parts-of e c).heap) refl in
+    λ s. kept-ended e (without_frame e.heap) s c (without-frame e.heap (parts-of e c).heap) (λ n live. refl) refl in
     ended-by v cut e (λ why d. LeadsToConsistent e d.after) (λ w. cut_short _) (λ p. cut_short _) (left-follows v e c) (outermost-follows cut e c)
 
 -- THE BEGIN OF A FRAME
@@ -125,6 +131,10 @@ with-receiver heap (Some h) g = unchanged heap g
 length-receiver : (heap : Heap) (receiver : Option HandleId) → length (with_receiver receiver heap).scopes ≡ length heap.scopes
 length-receiver heap None = length-changed _ heap.scopes
 length-receiver heap (Some h) = refl
+
+receiver-links : (heap : Heap) (receiver : Option HandleId) (n : ℕ) → link_of (with_receiver receiver (with_frame heap)).values n ≡ link_of heap.values n
+receiver-links heap None n = refl
+receiver-links heap (Some h) n = refl
 
 -- a function is called only where a frame more may stand
 below-limit : (e : Environment) (receiver : Option HandleId) (f : HandleId) (args : Args) → refusal e (call.CallFunction receiver f args) ≡ None
@@ -142,7 +152,7 @@ enter_change-follows e receiver f args h c =
     let frame : ComesTo e.heap (with_frame e.heap) = with-frame e.heap g.heap in
     let heap : Heap = with_receiver receiver (with_frame e.heap) in
     let comes : ComesTo e.heap heap = and-then e.heap (with_frame e.heap) heap frame (with-receiver (with_frame e.heap) receiver frame.good) in
-    let led : IsConsistentButFrames (record e { heap = heap }) = (in-heap e heap g comes).good in
+    let led : IsConsistentButFrames (record e { heap = heap }) = (in-heap e heap g comes (λ n live. receiver-links e.heap receiver n)).good in
     let new : Environment = (enter_change receiver f args e).after in
     let good : IsConsistentButFrames new = record {
       heap = led.heap;
@@ -159,9 +169,10 @@ enter_change-follows e receiver f args h c =
       stay = comes.stay;
     }
 
-asked-follows : (e : Environment) (c : Call) (k : ℕ) → IsConsistent e → LeadsToConsistent e (asked_change e c k).after
-asked-follows e c k old =
-    asked-by e c k (λ d. LeadsToConsistent e d.after) (call_change-follows e c k old) (λ receiver f args none. enter_change-follows e receiver f args none old)
+asked-follows : (e : Environment) (c : Call) (k : ℕ) → IsHooked e → IsConsistent e → LeadsToConsistent e (asked_change e c k).after
+asked-follows e c k hooked old =
+    asked-by e c k (λ d. LeadsToConsistent e d.after) (call_change-follows e c k hooked old)
+    (λ receiver f args none. enter_change-follows e receiver f args none old)
 
 -- EVENTS WHERE NO FRAME STANDS
 -- what is neither heap, references, pending exception nor frames may change
@@ -175,7 +186,7 @@ begun-follows : (e : Environment) (inits : ℕ) (book : Book) (hooks : List Hook
 begun-follows e inits book hooks others f none c =
     let g : IsConsistentButFrames e = parts-of e c in
     let frame : ComesTo e.heap (with_frame e.heap) = with-frame e.heap g.heap in
-    let led : IsConsistentButFrames (record e { heap = with_frame e.heap }) = (in-heap e (with_frame e.heap) g frame).good in
+    let led : IsConsistentButFrames (record e { heap = with_frame e.heap }) = (in-heap e (with_frame e.heap) g frame (λ n live. refl)).good in
     let new : Environment = record e { inits = inits; book = book; hooks = hooks; async_hooks = others; heap = with_frame e.heap; frames = f ∷ e.frames } in
     let good : IsConsistentButFrames new = record {
       heap = led.heap;
@@ -307,37 +318,39 @@ event-follows m IsGone none c =
     } in
     other-follows m.env (gone_change m.env).after good refl refl (stays m.env.heap) c
 
-call-step-follows : (m : Machine) (c : Call) (o : Out) (b : Bool) → IsConsistent m.env → StepFollows m (call_step_on b m c o)
-call-step-follows m c o false old = asked-follows m.env c (issued_number o) old
-call-step-follows m c o true old = shared-follows m.env c (call_step_on true m c o).entry.reply old
+call-step-follows : (m : Machine) (c : Call) (o : Out) (b : Bool) → IsHooked m.env → IsConsistent m.env → StepFollows m (call_step_on b m c o)
+call-step-follows m c o false hooked old = asked-follows m.env c (issued_number o) hooked old
+call-step-follows m c o true hooked old = shared-follows m.env c (call_step_on true m c o).entry.reply old
 
 end-step-follows : (m : Machine) (v : Option HandleId) (cut : Option Why) (may b : Bool) → IsConsistent m.env → StepFollows m (end_step_on b m (end_change v cut m.env) may)
 end-step-follows m v cut may false c = frame-follows v cut m.env c
 end-step-follows m v cut may true c = frame-follows v cut m.env c
 
-form-follows : (m : Machine) (s : Step) → Form m s → IsConsistent m.env → StepFollows m s
-form-follows m _ (form.calls f fs stands c o local) old = call-step-follows m c o false old
-form-follows m _ (form.shares f fs stands c o is told) old = call-step-follows m c o true old
-form-follows m _ (form.ends f fs stands v cut may ours is) old = end-step-follows m v cut may ours old
-form-follows m _ (form.happens alone event next) old = event-follows m event alone old
-form-follows m _ (form.others x other same) old = same-follows m.env old
+form-follows : (m : Machine) (s : Step) → Form m s → IsHooked m.env → IsConsistent m.env → StepFollows m s
+form-follows m _ (form.calls f fs stands c o local) hooked old = call-step-follows m c o false hooked old
+form-follows m _ (form.shares f fs stands c o is told) hooked old = call-step-follows m c o true hooked old
+form-follows m _ (form.ends f fs stands v cut may ours is) hooked old = end-step-follows m v cut may ours old
+form-follows m _ (form.happens alone event next) hooked old = event-follows m event alone old
+form-follows m _ (form.others x other same) hooked old = same-follows m.env old
 
 -- RUNS
-next-follows : (m : Machine) (a : Ask) (x : Entry) → IsNext m a x → IsConsistent m.env → LeadsToConsistent m.env (after m a x).env
-next-follows m a x next c = form-follows m (step m a x) (form-of m a x next) c
+next-follows : (m : Machine) (a : Ask) (x : Entry) → IsNext m a x → Orderly m → IsConsistent m.env → LeadsToConsistent m.env (after m a x).env
+next-follows m a x next h c = form-follows m (step m a x) (form-of m a x next) h.hooked c
 
-pub run-follows : (m : Machine) (bs : List Ask) (xs : List Entry) → IsRunBy m bs xs → IsConsistent m.env → LeadsToConsistent m.env (final m bs xs).env
+pub run-follows : (m : Machine) (bs : List Ask) (xs : List Entry) → IsRunBy m bs xs → Orderly m → IsConsistent m.env
+    → LeadsToConsistent m.env (final m bs xs).env
 run-follows =
-    along-entries (λ m bs xs. IsConsistent m.env → LeadsToConsistent m.env (final m bs xs).env) (λ m c. same-follows m.env c) (λ m a bs x xs next rest c.
-    let one : LeadsToConsistent m.env (after m a x).env = next-follows m a x next c in
-    then-follows m.env (after m a x).env (final (after m a x) bs xs).env one (rest one.good))
+    along-entries (λ m bs xs. Orderly m → IsConsistent m.env → LeadsToConsistent m.env (final m bs xs).env) (λ m h c. same-follows m.env c)
+    (λ m a bs x xs next rest h c.
+    let one : LeadsToConsistent m.env (after m a x).env = next-follows m a x next h c in
+    then-follows m.env (after m a x).env (final (after m a x) bs xs).env one (rest (next-orderly m a x h next) one.good))
 
 -- from each moment to each later one
-pub later-follows : (m : Machine) (bs : List Ask) (xs : List Entry) (i j : ℕ) → i ≤ j → IsRunBy m bs xs → IsConsistent m.env
+pub later-follows : (m : Machine) (bs : List Ask) (xs : List Entry) (i j : ℕ) → i ≤ j → IsRunBy m bs xs → Orderly m → IsConsistent m.env
     → LeadsToConsistent (final m (take i bs) (take i xs)).env (final m (take j bs) (take j xs)).env
-later-follows m bs xs zero j below run c = run-follows m (take j bs) (take j xs) (steps-prefix m bs xs j run) c
-later-follows m bs xs (suc i) zero below run c = absurd (omega (arith, below))
-later-follows m (a ∷ bs) (x ∷ xs) (suc i) (suc j) below run c =
-    later-follows (after m a x) bs xs i j (omega (arith, below)) run.1 (next-follows m a x run.0 c).good
-later-follows m [] xs (suc i) (suc j) below run c = same-follows m.env c
-later-follows m (a ∷ bs) [] (suc i) (suc j) below run c = absurd run
+later-follows m bs xs zero j below run h c = run-follows m (take j bs) (take j xs) (steps-prefix m bs xs j run) h c
+later-follows m bs xs (suc i) zero below run h c = absurd (omega (arith, below))
+later-follows m (a ∷ bs) (x ∷ xs) (suc i) (suc j) below run h c =
+    later-follows (after m a x) bs xs i j (omega (arith, below)) run.1 (next-orderly m a x h run.0) (next-follows m a x run.0 h c).good
+later-follows m [] xs (suc i) (suc j) below run h c = same-follows m.env c
+later-follows m (a ∷ bs) [] (suc i) (suc j) below run h c = absurd run

@@ -53,11 +53,15 @@ with-new heap b g =
     and-then heap (with_value b heap) (with_handle (heap.made + 1) (with_value b heap)) made
     (with-handle (with_value b heap) (heap.made + 1) made.good (live-pushed heap.values (fresh_value (heap.made + 1) b)))
 
--- a new linked value and its handle
+-- a new linked value, ..
+pub with-linked-value : (heap : Heap) (tag : ℕ) → IsConsistentHeap heap → ComesTo heap (with_linked tag heap)
+with-linked-value heap tag g = with-pushed heap (linked_value (heap.made + 1) tag None) refl (All-nil (IsLiveAmong (with_linked tag heap).values)) g
+
+-- .. and its handle
 pub with-new-linked : (heap : Heap) (tag : ℕ) → IsConsistentHeap heap → ComesTo heap (with_handle (heap.made + 1) (with_linked tag heap))
 with-new-linked heap tag g =
     let x : Value = linked_value (heap.made + 1) tag None in
-    let made : ComesTo heap (with_linked tag heap) = with-pushed heap x refl (All-nil (IsLiveAmong (with_linked tag heap).values)) g in
+    let made : ComesTo heap (with_linked tag heap) = with-linked-value heap tag g in
     and-then heap (with_linked tag heap) (with_handle (heap.made + 1) (with_linked tag heap)) made
     (with-handle (with_linked tag heap) (heap.made + 1) made.good (live-pushed heap.values x))
 

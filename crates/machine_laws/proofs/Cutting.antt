@@ -228,6 +228,7 @@ needs-three (call.SetInstanceData payload None hint) alone registers = cc
 needs-three (call.SetInstanceData payload (Some entry) hint) alone registers = refl
 needs-three (call.AddEnvCleanupHook entry argument) alone registers = refl
 needs-three (call.AddAsyncCleanupHook entry argument) alone registers = refl
+needs-three (call.AddReaction h entry payload) alone registers = refl
 needs-three (call.CreateAsyncWork job completion payload) alone registers = cc
 needs-three (call.QueueAsyncWork w) alone registers = cc
 needs-three (call.CreateThreadsafeFunction f entry most initial finalizer context) alone registers = cc

@@ -18,6 +18,7 @@ mod Exiting
 mod Prefixes
 mod Holding
 mod HookNumbers
+mod KeptLinks
 mod KeptScripts
 mod KeptValues
 mod LiveNumbers
@@ -26,6 +27,7 @@ mod Naming
 mod Others
 mod PromiseMaps
 mod PromisesKept
+mod Reactions
 mod Rising
 mod RowLists
 mod Settling

@@ -1,5 +1,5 @@
 -- What it takes to show that entries are no run.
-use Rattle.std.proofs.Common.{◌≡◌, ℕ, Bool, false, not, ◌&&◌, List, [], ◌∷◌, IsTrue, refl, ap, Option, Some, None, is_none, subst, slice_index_or}
+use Rattle.std.proofs.Common.{◌≡◌, ℕ, pos, Bool, false, not, ◌&&◌, List, [], ◌∷◌, IsTrue, refl, ap, Option, Some, None, is_none, subst, slice_index_or}
 use Rattle.napi_types.specs.declared.call.Ask.{Ask}
 use Rattle.napi_types.specs.declared.call.Call.TheVariants as call
 use Rattle.napi_types.specs.declared.entry.Actor.{Actor}
@@ -47,6 +47,10 @@ entry_in_place n xs = slice_index_or xs n (host_entry host.Gone out.Nothing)
 abbrev pub told_number : ℕ → Out → ℕ
 told_number d (out.Unsigned n) = n
 told_number d _ = d
+
+abbrev pub told_signed : ℕ → Out → ℕ
+told_signed d (out.Signed (pos n)) = n
+told_signed d _ = d
 
 abbrev pub told_handle : ℕ → Out → ℕ
 told_handle d (out.Handle h) = h.0

@@ -41,12 +41,12 @@ on-references e c unhooked unattached alone =
       order = alone ∙ sym (ap (λ o. option_or o (hook_refusal e c)) within ∙ ap (option_or r) unhooked ∙ option_or-none r);
     }
 
--- a call that nothing but the heap and its deferred can refuse
+-- a call that nothing but the heap and the promises can refuse
 on-promises : (e : Environment) (c : Call) → hook_refusal e c ≡ None → reference_refusal e.references c ≡ None
     → option_or (referring_refusal e c) (attachment_refusal e.attachments e.heap c) ≡ None
-    → refusal_by_state e c ≡ option_or (refusal_in e.texts e.heap c) (promise_refusal e.promises c) → NamesHooksAlone e c
+    → refusal_by_state e c ≡ option_or (refusal_in e.texts e.heap c) (promise_refusal e c) → NamesHooksAlone e c
 on-promises e c unhooked unreferred unattached alone =
-    let p : Option Status = promise_refusal e.promises c in
+    let p : Option Status = promise_refusal e c in
     let within : attached_refusal e c ≡ option_or (refusal_in e.texts e.heap c) p =
     ap (λ o. option_or (refusal_in e.texts e.heap c) (option_or p o)) unattached ∙ ap (option_or (refusal_in e.texts e.heap c)) (option_or-none p) in
     let same : option_or (reference_refusal e.references c) (attached_refusal e c) ≡ refusal_by_state e c =
@@ -80,6 +80,8 @@ hooks-alone e (call.ReferenceUnref r) = on-references e (call.ReferenceUnref r) 
 hooks-alone e (call.GetReferenceValue r) = on-references e (call.GetReferenceValue r) refl refl refl
 hooks-alone e (call.ResolveDeferred d v) = on-promises e (call.ResolveDeferred d v) refl refl refl refl
 hooks-alone e (call.RejectDeferred d v) = on-promises e (call.RejectDeferred d v) refl refl refl refl
+hooks-alone e (call.AddReaction h entry payload) = on-promises e (call.AddReaction h entry payload) refl refl refl refl
+hooks-alone e call.GetReactionValue = on-promises e call.GetReactionValue refl refl refl refl
 hooks-alone e c = record { alone = inl refl; first = refl; order = sym (option_or-none (option_or (reference_refusal e.references c) (attached_refusal e c))) }
 
 -- one of the list fails the test, so not all pass it

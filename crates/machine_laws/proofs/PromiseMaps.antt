@@ -1,21 +1,26 @@
--- Promises and their deferreds stay finite maps, and fit the values, as promises are made, settled and collected.
-use Rattle.std.proofs.Common.{◌≡◌, ◌≤◌, ◌∙◌, arith, ℕ, ◌+◌, ◌==◌, nat_eq, nat_lt, Bool, true, false, not, cond, List, [], ◌∷◌, map, filter, refl, ap, subst, Option, Some, None, option_map, slice_index_or, inl, inr}
+-- Promises and their deferreds stay finite maps, and fit the values, as promises are made, settled, given reactions and collected.
+use Rattle.std.proofs.Common.{◌≡◌, ◌≢◌, ◌≤◌, ◌∙◌, arith, ℕ, ◌+◌, ◌==◌, nat_eq, nat_lt, Bool, true, false, not, cond, List, [], ◌∷◌, map, filter, refl, ap, sym, subst, Option, Some, None, IsSome, is_some, option_map, slice_index_or, inl, inr}
 use Rattle.std.specs.List.{All, IsDistinct, count_by}
 use Rattle.std.proofs.lemmas.Bool.{eq-eqb, ne_eqb, cases_eq, le-ltb, ltb-true, or_left, or_right}
 use Rattle.std.proofs.lemmas.List.Elements.{All-nil, All-cons, All-filter, All-map, All-weaker, filter_passes}
 use Rattle.std.proofs.lemmas.Map.Keys.{IsDistinct-head, IsDistinct-tail}
+use Rattle.napi_types.specs.declared.entry.Duty.{Duty}
+use Rattle.napi_types.specs.declared.entry.Duty.TheVariants as duty
 use Rattle.napi_types.specs.plain.Lists.{found, has_number, with_record, with_number}
-use Rattle.napi_types.specs.parts.Promises.{Promise, Deferred, Promises, no_promises, deferred_promise, with_promise, with_settled, promises_left}
-use Rattle.napi_types.specs.parts.Values.{Value}
+use Rattle.napi_types.specs.parts.Promises.{Promise, Deferred, Promises, no_promises, deferred_promise, with_promise, with_settled, with_reaction, promises_left}
+use Rattle.napi_types.specs.parts.Values.{Value, link_of, value_changed, with_link}
 use Rattle.napi_types.specs.environment.Collection.{is_freed}
+use Rattle.napi_types.specs.environment.Ends.{reaction_ended}
 use Rattle.napi_types.specs.environment.Environment.{Environment}
 use Rattle.napi_types.specs.environment.Roots.{reach}
-use Rattle.napi_types.proofs.plain.Found.{found-All, found-changed, found-filter, found-number, found-with_record, has-with_number, rising-changed, rising-filter, rising-with_record, same-self, turned}
+use Rattle.napi_types.proofs.plain.Found.{found-All, found-changed, found-filter, found-number, found-with_record, has-with_number, rising-changed, rising-filter, rising-with_record, same-self, same-tells, turned}
 use Rattle.napi_types.proofs.plain.Maps.{All-with_record}
 use Rattle.napi_types.proofs.plain.Tallies.{tally-append}
-use Rattle.machine_laws.specs.Consistency.{ArePromisesOf, IsLiveAmong, IsPromiseMap}
+use Rattle.machine_laws.specs.Consistency.{ArePromisesOf, IsLiveAmong, IsPromiseMap, reactions_in}
 use Rattle.machine_laws.proofs.Collected.{kept, live-reached, of-each, within-filter}
+use Rattle.machine_laws.proofs.KeptLinks.{KeepsLinks, link-other, link-set, link-stays}
 use Rattle.machine_laws.proofs.Counting.{Within, count-cons, distinct-from, distinct-times, one_when, times, within-map}
+use Rattle.machine_laws.proofs.Reactions.{AreBelow, RiseIn, ended_promise, fewer-ended, reacting_promise, rise-ended, rise-reacting, times-left, times-made, times-reacting, times-remade, times_in}
 
 -- the value of a promise, and the number and the promise of a deferred
 abbrev pub promised_value : Promise → ℕ
@@ -193,6 +198,14 @@ others-apart n v (d ∷ ds) apart is = by (d.number == n) is (others-apart n v d
         (All-weaker (λ x. nat_eq d.promise x.promise ≡ false) P (λ x other. turned x.promise v ∙ subst (λ k. (k == x.promise) ≡ false) it other) ds heads)
     by false told later = All-cons P d (of_other_numbers n ds) (first (found deferred_number n ds) refl told) (later told)
 
+-- LINKS
+-- what settled it is the link of a promise that is settled, and that of a deferred has none
+abbrev IsLinkedAmong : List Value → Promise → Type 0
+IsLinkedAmong vs r = r.state ≢ 0 → IsSome (link_of vs r.value)
+
+abbrev IsUnlinkedAmong : List Value → Deferred → Type 0
+IsUnlinkedAmong vs d = link_of vs d.promise ≡ None
+
 -- THE MAPS
 pub none-promised : (vs : List Value) → ArePromisesOf vs no_promises
 none-promised vs = record {
@@ -203,20 +216,27 @@ none-promised vs = record {
     issued = All-nil (λ (d : Deferred). has_number d.number [] ≡ true);
     pending = All-nil (IsPendingAmong []);
     apart = distinct-from [] (λ m. omega arith);
+    reactions = All-nil RiseIn;
+    once = distinct-from [] (λ m. omega arith);
   };
   live = All-nil (λ (r : Promise). IsLiveAmong vs r.value);
   deferred = All-nil (λ (d : Deferred). IsLiveAmong vs d.promise);
+  unsettled = All-nil (IsUnlinkedAmong vs);
+  settled = All-nil (IsLinkedAmong vs);
 }
 
--- more values are live
-pub wider-promised : (vs ws : List Value) (p : Promises) → ((n : ℕ) → IsLiveAmong vs n → IsLiveAmong ws n) → ArePromisesOf vs p → ArePromisesOf ws p
-wider-promised vs ws p live h = record {
+-- more values are live, and no link changes
+pub wider-promised : (vs ws : List Value) (p : Promises) → ((n : ℕ) → IsLiveAmong vs n → IsLiveAmong ws n) → KeepsLinks vs ws → ArePromisesOf vs p
+    → ArePromisesOf ws p
+wider-promised vs ws p live links h = record {
   rows = h.rows;
   live = All-weaker (λ (r : Promise). IsLiveAmong vs r.value) (λ r. IsLiveAmong ws r.value) (λ r. live r.value) p.promises h.live;
   deferred = All-weaker (λ (d : Deferred). IsLiveAmong vs d.promise) (λ d. IsLiveAmong ws d.promise) (λ d. live d.promise) p.deferreds h.deferred;
+  unsettled = λ k d below. links _ (h.deferred k d below) ∙ h.unsettled k d below;
+  settled = λ k d below some. subst IsSome (sym (links _ (h.live k d below))) (h.settled k d below some);
 }
 
--- a live value becomes a promise
+-- a value becomes a promise
 more-map : (v n : ℕ) (p : Promises) → IsPromiseMap p → IsPromiseMap (with_promise v n p)
 more-map v n p h =
     let test : Deferred → Bool = λ d. not (d.promise == v) in
@@ -238,14 +258,21 @@ more-map v n p h =
           (has-with_number n n p.issued ∙ or_left (n == n) (has_number n p.issued) (same-self n)) (All-filter test Q p.deferreds wider);
       pending = All-with_record deferred_number x (IsPendingAmong rs) (of_others v p.deferreds) (new-state v p.promises) still;
       apart = apart-more v n p.deferreds h.apart;
+      reactions = All-with_record promised_value (pending_promise v) RiseIn p.promises tt h.reactions;
+      once = distinct-from (reactions_in rs) (λ m. omega (arith, times-made m v p.promises, distinct-times m (reactions_in p.promises) h.once));
     }
 
-pub more-promised : (v n : ℕ) (vs : List Value) (p : Promises) → IsLiveAmong vs v → ArePromisesOf vs p → ArePromisesOf vs (with_promise v n p)
-more-promised v n vs p live h = record {
+-- a live value without a link becomes a promise
+pub more-promised : (v n : ℕ) (vs : List Value) (p : Promises) → IsLiveAmong vs v → link_of vs v ≡ None → ArePromisesOf vs p
+    → ArePromisesOf vs (with_promise v n p)
+more-promised v n vs p live none h = record {
   rows = more-map v n p h.rows;
   live = All-with_record promised_value (pending_promise v) (λ r. IsLiveAmong vs r.value) p.promises live h.live;
   deferred = All-with_record deferred_number (record { number = n; promise = v }) (λ d. IsLiveAmong vs d.promise) (of_others v p.deferreds) live
       (All-filter (λ d. not (d.promise == v)) (λ d. IsLiveAmong vs d.promise) p.deferreds h.deferred);
+  unsettled = All-with_record deferred_number (record { number = n; promise = v }) (IsUnlinkedAmong vs) (of_others v p.deferreds) none
+      (All-filter (λ d. not (d.promise == v)) (IsUnlinkedAmong vs) p.deferreds h.unsettled);
+  settled = All-with_record promised_value (pending_promise v) (IsLinkedAmong vs) p.promises (λ some. absurd (some refl)) h.settled;
 }
 
 -- a deferred is settled
@@ -262,17 +289,110 @@ settled-map n v state p is h =
       issued = All-filter test (λ d. has_number d.number p.issued ≡ true) p.deferreds h.issued;
       pending = λ k d below. other-state v state _ p.promises (other k d below) ∙ before k d below;
       apart = apart-fewer test p.deferreds h.apart;
+      reactions = All-map RiseIn (settled_promise v state) p.promises
+          (λ k d below. same-rise (slice_index_or p.promises k d) (_ == v) (h.reactions k d below));
+      once = distinct-from (reactions_in rs)
+          (λ m. omega (
+            arith,
+            times-remade m (settled_promise v state) (λ r. same-times m r (r.value == v)) p.promises,
+            distinct-times m (reactions_in p.promises) h.once,
+          ));
     }
+  where
+    same-rise : (r : Promise) (b : Bool) → RiseIn r → RiseIn (cond b (record r { state = state }) r)
+    same-rise r true rise = rise
+    same-rise r false rise = rise
 
-pub settled-promised : (n v state : ℕ) (vs : List Value) (p : Promises) → deferred_promise p n ≡ Some v → ArePromisesOf vs p
-    → ArePromisesOf vs (with_settled n v state p)
-settled-promised n v state vs p is h =
-    let P : Promise → Type 0 = λ r. IsLiveAmong vs r.value in
+    same-times : (m : ℕ) (r : Promise) (b : Bool) → times m (cond b (record r { state = state }) r).reactions ≤ times m r.reactions
+    same-times m r true = omega arith
+    same-times m r false = omega arith
+
+-- .. with a value, which is then the link of its promise
+pub settled-promised : (n v state to : ℕ) (vs : List Value) (p : Promises) → deferred_promise p n ≡ Some v
+    → ((m : ℕ) → IsLiveAmong vs m → IsLiveAmong (value_changed v (with_link to) vs) m) → ArePromisesOf vs p
+    → ArePromisesOf (value_changed v (with_link to) vs) (with_settled n v state p)
+settled-promised n v state to vs p is live h =
+    let P : Promise → Type 0 = λ r. IsLiveAmong ws r.value in
+    let other : All (λ d. (d.promise == v) ≡ false) (of_other_numbers n p.deferreds) = others-apart n v p.deferreds h.rows.apart is in
+    let before : All (IsUnlinkedAmong vs) (of_other_numbers n p.deferreds) =
+    All-filter (λ d. not (d.number == n)) (IsUnlinkedAmong vs) p.deferreds h.unsettled in
     record {
       rows = settled-map n v state p is h.rows;
-      live = All-map P (settled_promise v state) p.promises (λ k d below. rw (kept-value v state (slice_index_or p.promises k d)) (h.live k d below));
-      deferred = All-filter (λ d. not (d.number == n)) (λ d. IsLiveAmong vs d.promise) p.deferreds h.deferred;
+      live = All-map P (settled_promise v state) p.promises
+          (λ k d below. rw (kept-value v state (slice_index_or p.promises k d)) (live _ (h.live k d below)));
+      deferred = All-filter (λ d. not (d.number == n)) (λ d. IsLiveAmong ws d.promise) p.deferreds (λ k d below. live _ (h.deferred k d below));
+      unsettled = λ k d below. link-other v to _ vs (other k d below) ∙ before k d below;
+      settled = All-map (IsLinkedAmong ws) (settled_promise v state) p.promises
+          (λ k d below. by (slice_index_or p.promises k d) _ refl (h.live k d below) (h.settled k d below));
     }
+  where
+    ws : List Value
+    ws = value_changed v (with_link to) vs
+
+    by : (r : Promise) (b : Bool) → (r.value == v) ≡ b → IsLiveAmong vs r.value → IsLinkedAmong vs r
+        → IsLinkedAmong ws (cond b (record r { state = state }) r)
+    by r true same there linked some =
+        let at : r.value ≡ v = same-tells r.value v same in
+        subst (λ m. IsSome (link_of ws m)) (sym at) (ap is_some (link-set v to vs (subst (IsLiveAmong vs) at there)))
+    by r false other there linked some = subst IsSome (sym (link-other v to r.value vs other)) (linked some)
+
+-- promises change, but for their values and their states
+module _ (change : Promise → Promise) (value : (r : Promise) → (change r).value ≡ r.value) (state : (r : Promise) → (change r).state ≡ r.state) where
+  remade-state : (m : ℕ) (rs : List Promise) → state_among (map change rs) m ≡ state_among rs m
+  remade-state m rs = ap (option_map (λ (r : Promise). r.state)) (found-changed promised_value change value m rs) ∙ by (found promised_value m rs)
+    where
+      by : (o : Option Promise) → option_map (λ (r : Promise). r.state) (option_map change o) ≡ option_map (λ (r : Promise). r.state) o
+      by None = refl
+      by (Some r) = ap Some (state r)
+
+  remade-map : (p : Promises) → All RiseIn (map change p.promises) → ((m : ℕ) → times_in m (map change p.promises) ≤ 1) → IsPromiseMap p
+      → IsPromiseMap (record p { promises = map change p.promises })
+  remade-map p rise once h = record {
+    promises = rising-changed promised_value change value p.promises h.promises;
+    deferreds = h.deferreds;
+    numbers = h.numbers;
+    issued = h.issued;
+    pending = λ k d below. remade-state (slice_index_or p.deferreds k d).promise p.promises ∙ h.pending k d below;
+    apart = h.apart;
+    reactions = rise;
+    once = distinct-from (reactions_in (map change p.promises)) once;
+  }
+
+  remade-promised : (vs : List Value) (p : Promises) → All RiseIn (map change p.promises) → ((m : ℕ) → times_in m (map change p.promises) ≤ 1)
+      → ArePromisesOf vs p → ArePromisesOf vs (record p { promises = map change p.promises })
+  remade-promised vs p rise once h = record {
+    rows = remade-map p rise once h.rows;
+    live = All-map (λ (r : Promise). IsLiveAmong vs r.value) change p.promises (λ k d below. rw (value (slice_index_or p.promises k d)) (h.live k d below));
+    deferred = h.deferred;
+    unsettled = h.unsettled;
+    settled = All-map (IsLinkedAmong vs) change p.promises (λ k d below. by (slice_index_or p.promises k d) (h.settled k d below));
+  }
+    where
+      by : (r : Promise) → IsLinkedAmong vs r → IsLinkedAmong vs (change r)
+      by r linked some = rw (value r) (linked (λ none. some (state r ∙ none)))
+
+-- a promise has a reaction more, of a ticket above those of all others
+pub reacted-promised : (v ticket : ℕ) (vs : List Value) (p : Promises) → All (AreBelow ticket) p.promises → ArePromisesOf vs p
+    → ArePromisesOf vs (with_reaction v ticket p)
+reacted-promised v ticket vs p below h =
+    remade-promised _ (λ r. value r (r.value == v)) (λ r. state r (r.value == v)) vs p (rise-reacting v ticket p.promises below h.rows.reactions)
+    (λ m. times-reacting v ticket m p.promises h.rows.promises below (distinct-times m (reactions_in p.promises) h.rows.once)) h
+  where
+    value : (r : Promise) (b : Bool) → (cond b (reacting_promise ticket r) r).value ≡ r.value
+    value r true = refl
+    value r false = refl
+
+    state : (r : Promise) (b : Bool) → (cond b (reacting_promise ticket r) r).state ≡ r.state
+    state r true = refl
+    state r false = refl
+
+-- a frame ends, and with it its reaction, where it is that of one
+pub ended-promised : (d : Option Duty) (vs : List Value) (p : Promises) → ArePromisesOf vs p → ArePromisesOf vs (reaction_ended d p)
+ended-promised (Some (duty.Ticket ticket)) vs p h =
+    remade-promised (ended_promise ticket.0) (λ r. refl) (λ r. refl) vs p (rise-ended ticket.0 p.promises h.rows.reactions)
+    (λ m. omega (arith, times-remade m (ended_promise ticket.0) (fewer-ended ticket.0 m) p.promises, distinct-times m (reactions_in p.promises) h.rows.once)) h
+ended-promised (Some _) vs p h = h
+ended-promised None vs p h = h
 
 -- values are collected
 left-map : (gone : ℕ → Bool) (p : Promises) → IsPromiseMap p → IsPromiseMap (promises_left gone p)
@@ -287,6 +407,9 @@ left-map gone p h =
       issued = All-filter test (λ d. has_number d.number p.issued ≡ true) p.deferreds h.issued;
       pending = λ k d below. left-state (slice_index_or (filter test p.deferreds) k d).promise (stays k d below) ∙ before k d below;
       apart = apart-fewer test p.deferreds h.apart;
+      reactions = All-filter (λ r. not (gone r.value)) RiseIn p.promises h.reactions;
+      once = distinct-from (reactions_in (filter (λ r. not (gone r.value)) p.promises))
+          (λ m. omega (arith, times-left m (λ r. not (gone r.value)) p.promises, distinct-times m (reactions_in p.promises) h.once));
     }
   where
     left-state : (m : ℕ) → not (gone m) ≡ true → state_among (filter (λ r. not (gone r.value)) p.promises) m ≡ state_among p.promises m
@@ -301,4 +424,13 @@ left-promised e h = record {
       live-reached e _ (passes-stay _ (filter_passes (λ (r : Promise). not (is_freed (reach e) r.value)) e.promises.promises k d below));
   deferred = λ k d below.
       live-reached e _ (passes-stay _ (filter_passes (λ (x : Deferred). not (is_freed (reach e) x.promise)) e.promises.deferreds k d below));
+  unsettled = λ k d below.
+      link-stays (reach e) _ e.heap.values
+      (passes-stay _ (filter_passes (λ (x : Deferred). not (is_freed (reach e) x.promise)) e.promises.deferreds k d below))
+      ∙ All-filter (λ (x : Deferred). not (is_freed (reach e) x.promise)) (IsUnlinkedAmong e.heap.values) e.promises.deferreds h.unsettled k d below;
+  settled = λ k d below some.
+      subst IsSome
+      (sym (link-stays (reach e) _ e.heap.values
+      (passes-stay _ (filter_passes (λ (r : Promise). not (is_freed (reach e) r.value)) e.promises.promises k d below))))
+      (All-filter (λ (r : Promise). not (is_freed (reach e) r.value)) (IsLinkedAmong e.heap.values) e.promises.promises h.settled k d below some);
 }

@@ -6,6 +6,7 @@ use Rattle.std.proofs.lemmas.Map.Keys.{IsDistinct-tail}
 use Rattle.napi_types.specs.parts.Scopes.{OpenHandle, held_by_frames, gives}
 use Rattle.napi_types.specs.environment.Environment.{Environment}
 use Rattle.napi_types.specs.runs.Setting.{opens_with, opening_of, final_of}
+use Rattle.napi_types.proofs.all_runs.Orderly.{orderly-opens}
 use Rattle.machine_laws.specs.Consistency.{IsConsistent}
 use Rattle.machine_laws.specs.HandleLaws.{HandlesAreStable}
 use Rattle.machine_laws.proofs.ConsistentAnswers.{LeadsToConsistent}
@@ -73,8 +74,9 @@ handles-are-stable s bs xs i j h v w run one two =
     let opening : IsConsistent (opening_of s).env = opening-consistent (opens_with s) in
     let at : ℕ → Environment = λ n. (final_of s (take n bs) (take n xs)).env in
     let good : (n : ℕ) → IsConsistent (at n) =
-    λ n. (run-follows (opening_of s) (take n bs) (take n xs) (steps-prefix (opening_of s) bs xs n run) opening).good in
+    λ n. (run-follows (opening_of s) (take n bs) (take n xs) (steps-prefix (opening_of s) bs xs n run) (orderly-opens s) opening).good in
     elim (cases_lt i j) [
-      | inl before ↦ same-later (at i) (at j) h v w (good i) (later-follows (opening_of s) bs xs i j (omega (arith, before)) run opening) one two
-      | inr after ↦ sym (same-later (at j) (at i) h w v (good j) (later-follows (opening_of s) bs xs j i after run opening) two one)
+      | inl before ↦
+          same-later (at i) (at j) h v w (good i) (later-follows (opening_of s) bs xs i j (omega (arith, before)) run (orderly-opens s) opening) one two
+      | inr after ↦ sym (same-later (at j) (at i) h w v (good j) (later-follows (opening_of s) bs xs j i after run (orderly-opens s) opening) two one)
     ]

@@ -177,11 +177,12 @@ pub record NamesReferencesAlone (e : Environment) (c : Call) : Type 0 where
 abbrev pub ReferencesAreNamedAlone : Type 0
 ReferencesAreNamedAlone = (e : Environment) (c : Call) → NamesReferencesAlone e c
 
--- the first refusal that the heap tells, or else that of a deferred, that of a value to which no reference is made, or that of what is attached to a value
+-- the first refusal that the heap tells, or else that of a deferred or a reaction, that of a value to which no reference is made, or that of what is attached
+-- to a value
 abbrev pub attached_refusal : Environment → Call → Option Status
 attached_refusal e c =
     option_or (refusal_in e.texts e.heap c)
-    (option_or (promise_refusal e.promises c) (option_or (referring_refusal e c) (attachment_refusal e.attachments e.heap c)))
+    (option_or (promise_refusal e c) (option_or (referring_refusal e c) (attachment_refusal e.attachments e.heap c)))
 
 -- a call on hooks names no reference, no handle and no text, so it shows nowhere either whether the hooks are asked before all that or after it
 pub record NamesHooksAlone (e : Environment) (c : Call) : Type 0 where

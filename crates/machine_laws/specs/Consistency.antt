@@ -1,14 +1,14 @@
 -- What holds of the environment at every moment of a run.
-use Rattle.std.specs.Prelude.{◌≡◌, ◌<◌, ◌≤◌, ℕ, nat_eq, true, List, [], ◌∷◌, length, map, Some}
+use Rattle.std.specs.Prelude.{◌≡◌, ◌≢◌, ◌<◌, ◌≤◌, ℕ, nat_eq, true, List, [], ◌∷◌, length, map, flat_map, Some, None, IsSome}
 use Rattle.std.specs.List.{All, IsDistinct}
 use Rattle.std.specs.Option.{IfSome}
 use Rattle.napi_types.specs.plain.Lists.{has_number}
 use Rattle.napi_types.specs.parts.Frames.{most_frames}
-use Rattle.napi_types.specs.parts.Promises.{Promises, promise_state}
+use Rattle.napi_types.specs.parts.Promises.{Promise, Promises, promise_state}
 use Rattle.napi_types.specs.parts.Reach.{numbers}
 use Rattle.napi_types.specs.parts.References.{ReferenceMap}
 use Rattle.napi_types.specs.parts.Scopes.{FrameScopes, held_by_frames}
-use Rattle.napi_types.specs.parts.Values.{Value, children, starting_values}
+use Rattle.napi_types.specs.parts.Values.{Value, children, link_of, starting_values}
 use Rattle.napi_types.specs.environment.Environment.{Environment}
 
 -- these numbers were issued, where numbers are issued from 1 to the last one: each is one of those, and none stands twice
@@ -38,8 +38,13 @@ pub record IsMap (m : ReferenceMap) : Type 0 where
   pub numbers : RisesBy (λ n. n) m.issued
   pub issued : All (λ r. has_number r.number m.issued ≡ true) m.rows
 
+-- the tickets of the reactions of all promises
+abbrev pub reactions_in : List Promise → List ℕ
+reactions_in rs = flat_map (λ r. r.reactions) rs
+
 -- promises and their deferreds as finite maps: the promises lie by rising number of their values, the deferreds by rising number, and so do the numbers that
--- were issued, of which each deferred has one. Each deferred is that of a promise which is pending, and no two are of the same
+-- were issued, of which each deferred has one. Each deferred is that of a promise which is pending, and no two are of the same. The reactions of a promise have
+-- rising tickets, and none is one of two promises
 pub record IsPromiseMap (p : Promises) : Type 0 where
   pub promises : RisesBy (λ r. r.value) p.promises
   pub deferreds : RisesBy (λ d. d.number) p.deferreds
@@ -47,12 +52,16 @@ pub record IsPromiseMap (p : Promises) : Type 0 where
   pub issued : All (λ d. has_number d.number p.issued ≡ true) p.deferreds
   pub pending : All (λ d. promise_state p d.promise ≡ Some 0) p.deferreds
   pub apart : IsDistinct nat_eq (map (λ d. d.promise) p.deferreds)
+  pub reactions : All (λ r. RisesBy (λ n. n) r.reactions) p.promises
+  pub once : IsDistinct nat_eq (reactions_in p.promises)
 
--- each promise is one of these values, and so is that of each deferred
+-- each promise is one of these values, and so is that of each deferred. That has no link, since nothing settled it; a promise that is settled has one
 pub record ArePromisesOf (vs : List Value) (p : Promises) : Type 0 where
   pub rows : IsPromiseMap p
   pub live : All (λ r. IsLiveAmong vs r.value) p.promises
   pub deferred : All (λ d. IsLiveAmong vs d.promise) p.deferreds
+  pub unsettled : All (λ d. link_of vs d.promise ≡ None) p.deferreds
+  pub settled : All (λ r. r.state ≢ 0 → IsSome (link_of vs r.value)) p.promises
 
 -- handles, values, references, promises and frames fit together
 pub record IsConsistent (e : Environment) : Type 0 where

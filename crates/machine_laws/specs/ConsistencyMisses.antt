@@ -1,14 +1,15 @@
 -- Environments that are consistent, and near misses, each of which misses one fact.
-use Rattle.std.specs.Prelude.{ℕ, ◌+◌, List, [], ◌∷◌, ◌++◌, Some, replicate}
+use Rattle.std.specs.Prelude.{ℕ, ◌+◌, List, [], ◌∷◌, ◌++◌, Some, None, replicate}
 use Rattle.napi_types.specs.declared.body.Body.TheVariants as body
 use Rattle.napi_types.specs.declared.entry.Cause.TheVariants as cause
+use Rattle.napi_types.specs.parts.Bodies.{promise_tag}
 use Rattle.napi_types.specs.parts.Frames.{Frame, frame_of, most_frames}
 use Rattle.napi_types.specs.parts.Heap.{Heap, new_heap}
 use Rattle.napi_types.specs.parts.NewValues.{array_of}
 use Rattle.napi_types.specs.parts.Promises.{Promise, Deferred}
 use Rattle.napi_types.specs.parts.References.{Reference, with_reference, no_references}
 use Rattle.napi_types.specs.parts.Scopes.{OpenHandle, no_handles}
-use Rattle.napi_types.specs.parts.Values.{undefined_value, null_value, starting_values, fresh_value}
+use Rattle.napi_types.specs.parts.Values.{undefined_value, null_value, starting_values, fresh_value, linked_value}
 use Rattle.napi_types.specs.environment.Environment.{Environment, new_environment}
 use Rattle.machine_laws.specs.Consistency.{IsConsistent}
 
@@ -51,12 +52,34 @@ referring rs ns = record (in_init_frame (holding two_held)) { references = recor
 abbrev pub promise : ℕ → ℕ → Promise
 promise value state = record { value = value; state = state; reactions = [] }
 
+-- one with reactions of these tickets
+abbrev pub reacting : ℕ → ℕ → List ℕ → Promise
+reacting value state tickets = record { value = value; state = state; reactions = tickets }
+
 abbrev pub deferred : ℕ → ℕ → Deferred
 deferred n value = record { number = n; promise = value }
 
+-- two more values: one that undefined settled, and one that nothing settled
+abbrev pub settled_value : ℕ
+settled_value = 6
+
+abbrev pub pending_value : ℕ
+pending_value = 7
+
+-- the number after theirs
+abbrev pub no_promise : ℕ
+no_promise = 8
+
+-- a heap with them
+abbrev pub with_linked_values : Heap
+with_linked_values = record (holding two_held) {
+  values = starting_values ++ linked_value settled_value promise_tag (Some undefined_value) ∷ linked_value pending_value promise_tag None ∷ [];
+  made = pending_value;
+}
+
 -- an environment with such promises and deferreds, where these numbers were issued
 abbrev pub promising : List Promise → List Deferred → List ℕ → Environment
-promising rs ds ns = record (in_init_frame (holding two_held)) { promises = record { promises = rs; deferreds = ds; issued = ns } }
+promising rs ds ns = record (in_init_frame with_linked_values) { promises = record { promises = rs; deferreds = ds; issued = ns } }
 
 -- one with a thread-safe function that keeps this value alive
 abbrev pub rooting : ℕ → Environment
@@ -68,12 +91,15 @@ deep n = record small_environment { heap = record new_heap { scopes = replicate 
 
 -- near misses are not consistent
 pub record IsStrict : Type 0 where
-  -- two handles of two values are consistent, as many frames as may stand, a thread-safe function that keeps a value alive, and two promises, of which one is
-  -- settled and the other has a deferred
+  -- two handles of two values are consistent, as many frames as may stand, a thread-safe function that keeps a value alive, and two promises with reactions, of
+  -- which one is settled and the other has a deferred
   pub fits : IsConsistent (in_init_frame (holding two_held))
   pub fits_deep : IsConsistent (deep most_frames)
   pub fits_rooted : IsConsistent (rooting undefined_value)
-  pub fits_promised : IsConsistent (promising (promise undefined_value 1 ∷ promise null_value 0 ∷ []) (deferred 2 null_value ∷ []) (1 ∷ 2 ∷ []))
+  pub fits_promised : IsConsistent (promising
+      (reacting settled_value 1 (1 ∷ 3 ∷ []) ∷ reacting pending_value 0 (2 ∷ []) ∷ [])
+      (deferred 2 pending_value ∷ [])
+      (1 ∷ 2 ∷ []))
   -- no handle stands twice, not of one value either, and none was not issued
   pub twice : (v w : ℕ) → IsConsistent (in_init_frame (holding (handle_to v 1 ∷ handle_to w 1 ∷ []))) → ⊥
   pub unissued : IsConsistent (in_init_frame (holding (handle_to undefined_value 1 ∷ handle_to null_value 3 ∷ []))) → ⊥
@@ -96,18 +122,26 @@ pub record IsStrict : Type 0 where
   pub falling_numbers : IsConsistent (referring (reference 1 ∷ reference 2 ∷ []) (2 ∷ 1 ∷ [])) → ⊥
   pub uncounted : IsConsistent (referring (reference 1 ∷ []) (2 ∷ [])) → ⊥
   -- no promise is a number that no value has. No deferred is of a value that is no promise, nor of one that is settled, and no two are of the same
-  pub dead : IsConsistent (promising (promise no_value 0 ∷ []) [] []) → ⊥
-  pub unpromised : IsConsistent (promising (promise null_value 0 ∷ []) (deferred 1 undefined_value ∷ []) (1 ∷ [])) → ⊥
-  pub settled : (state : ℕ) → IsConsistent (promising (promise null_value (state + 1) ∷ []) (deferred 1 null_value ∷ []) (1 ∷ [])) → ⊥
-  pub shared : IsConsistent (promising (promise null_value 0 ∷ []) (deferred 1 null_value ∷ deferred 2 null_value ∷ []) (1 ∷ 2 ∷ [])) → ⊥
+  pub dead : IsConsistent (promising (promise no_promise 0 ∷ []) [] []) → ⊥
+  pub unpromised : IsConsistent (promising (promise pending_value 0 ∷ []) (deferred 1 null_value ∷ []) (1 ∷ [])) → ⊥
+  pub settled : (value state : ℕ) → IsConsistent (promising (promise value (state + 1) ∷ []) (deferred 1 value ∷ []) (1 ∷ [])) → ⊥
+  pub shared : IsConsistent (promising (promise pending_value 0 ∷ []) (deferred 1 pending_value ∷ deferred 2 pending_value ∷ []) (1 ∷ 2 ∷ [])) → ⊥
+  -- nothing settled the promise of a deferred, and something did one that is settled
+  pub linked : IsConsistent (promising (promise settled_value 0 ∷ []) (deferred 1 settled_value ∷ []) (1 ∷ [])) → ⊥
+  pub unlinked : (state : ℕ) → IsConsistent (promising (promise pending_value (state + 1) ∷ []) [] []) → ⊥
+  -- no reactions lie by falling ticket, and none is one twice, neither of one promise nor of two
+  pub falling_reactions : IsConsistent (promising (reacting settled_value 1 (2 ∷ 1 ∷ []) ∷ []) [] []) → ⊥
+  pub reacts_twice : (ticket : ℕ) → IsConsistent (promising (reacting settled_value 1 (ticket ∷ ticket ∷ []) ∷ []) [] []) → ⊥
+  pub shared_reaction : (ticket : ℕ)
+      → IsConsistent (promising (reacting settled_value 1 (ticket ∷ []) ∷ reacting pending_value 0 (ticket ∷ []) ∷ []) [] []) → ⊥
   -- no promises lie by falling number of their values, no deferreds and no numbers that were issued by falling number, and no deferred's number was not issued
-  pub falling_promises : IsConsistent (promising (promise null_value 1 ∷ promise undefined_value 1 ∷ []) [] []) → ⊥
+  pub falling_promises : IsConsistent (promising (promise pending_value 0 ∷ promise settled_value 1 ∷ []) [] []) → ⊥
   pub falling_deferreds : IsConsistent (promising
       (promise undefined_value 0 ∷ promise null_value 0 ∷ [])
       (deferred 2 undefined_value ∷ deferred 1 null_value ∷ [])
       (1 ∷ 2 ∷ [])) → ⊥
   pub falling_issued : IsConsistent (promising [] [] (2 ∷ 1 ∷ [])) → ⊥
-  pub unissued_deferred : IsConsistent (promising (promise null_value 0 ∷ []) (deferred 1 null_value ∷ []) (2 ∷ [])) → ⊥
+  pub unissued_deferred : IsConsistent (promising (promise pending_value 0 ∷ []) (deferred 1 pending_value ∷ []) (2 ∷ [])) → ⊥
   -- a starting value is there
   pub starting : IsConsistent (in_init_frame (record (holding []) { values = [] })) → ⊥
   -- no frame is without scopes, and one more than may stand does not

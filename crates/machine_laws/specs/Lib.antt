@@ -43,6 +43,8 @@ pub mod PlacesAlong
 pub mod PlacesOfWorks
 pub mod PromiseCollected
 pub mod PromiseLaws
+pub mod PromisePending
+pub mod PromiseResolved
 pub mod PromiseRun
 pub mod PropertiesAndElements
 pub mod RealisticAddon

@@ -138,13 +138,21 @@ finalizer_begins n = finalizer_begins_at 0 n
 abbrev pub finalizer_runs : ℕ → List Entry → List Entry
 finalizer_runs n calls = finalizer_begins n ∷ calls ++ frame_end ∷ []
 
--- a whole run of one init frame and of finalizers: why its loop ends, its calls, the frames that begin in the loop, and those that begin after `finals`
+-- a whole run of one init frame and of finalizers or reactions: why its loop ends, its calls, the frames that begin in the loop, and those that begin after
+-- `finals`
 abbrev pub run_ended_by : LoopEnd → List Entry → List Entry → List Entry → List Entry
 run_ended_by reason calls in_loop at_end = opening_entries ++ calls ++ frame_end ∷ go_entry ∷ in_loop ++ ending_events reason ++ at_end ++ gone_entry ∷ []
 
 -- one whose loop ends as nothing is left to do
 abbrev pub run_of_finalizers : List Entry → List Entry → List Entry → List Entry
 run_of_finalizers calls in_loop at_end = run_ended_by loop_end.Idle calls in_loop at_end
+
+-- the begin of the frame of a reaction of this ticket, which runs entry 1 of the only addon, and its frame, with these calls
+abbrev pub reaction_begins : ℕ → Entry
+reaction_begins n = host_entry host.Begin (out.Begin cause.Reaction 0 1 (ticket n))
+
+abbrev pub reaction_runs : ℕ → List Entry → List Entry
+reaction_runs n calls = reaction_begins n ∷ calls ++ frame_end ∷ []
 
 -- the begin of the frame of a hook of this ticket, which runs entry 1 of the only addon, and its frame, with these calls
 abbrev pub hook_begins : ℕ → Entry

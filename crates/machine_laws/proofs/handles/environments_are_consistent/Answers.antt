@@ -1,21 +1,27 @@
-use Rattle.std.proofs.Common.{◌≡◌, ℕ, ◌+◌, arith, List, [], ◌∷◌, refl, ap, Some, None}
+use Rattle.std.proofs.Common.{◌≡◌, ◌<◌, ◌≤◌, ◌∙◌, ℕ, ◌+◌, ◌==◌, nat_eq, nat_lt, arith, true, List, [], ◌∷◌, refl, ap, sym, Some, None}
 use Rattle.std.specs.Option.{unwrap_or}
-use Rattle.std.proofs.lemmas.Bool.{false≢true}
+use Rattle.std.specs.List.{All, list_all, IsDistinct}
+use Rattle.std.proofs.lemmas.Bool.{false≢true, and_parts, ltb-true}
 use Rattle.std.proofs.lemmas.List.Elements.{All-nil, All-cons}
 use Rattle.napi_types.specs.declared.body.Body.TheVariants as body
+use Rattle.napi_types.specs.parts.Bodies.{promise_tag}
 use Rattle.napi_types.specs.parts.Frames.{most_frames}
-use Rattle.napi_types.specs.parts.Heap.{new_heap}
-use Rattle.napi_types.specs.parts.HeapChanges.{with_handle, with_frame}
-use Rattle.napi_types.specs.parts.Promises.{no_promises, with_promise}
-use Rattle.napi_types.specs.parts.Values.{Value, undefined_value, null_value, starting_values, fresh_value}
+use Rattle.napi_types.specs.parts.Heap.{Heap, new_heap}
+use Rattle.napi_types.specs.parts.HeapChanges.{with_handle, with_frame, with_linked}
+use Rattle.napi_types.specs.parts.Promises.{Promise, Promises, no_promises, promise_state, with_promise, with_reaction}
+use Rattle.napi_types.specs.parts.Values.{Value, undefined_value, null_value, starting_values, fresh_value, with_link}
 use Rattle.napi_types.specs.environment.Environment.{Environment, TsfnRoot}
+use Rattle.napi_types.proofs.plain.Found.{same-self}
 use Rattle.machine_laws.specs.Consistency.{IsConsistent, IsLiveAmong, ArePromisesOf}
-use Rattle.machine_laws.specs.ConsistencyMisses.{IsStrict, in_init_frame, holding, two_held, deep, rooting, reference, promise, deferred, promising}
+use Rattle.machine_laws.specs.ConsistencyMisses.{IsStrict, in_init_frame, holding, two_held, deep, rooting, reference, promise, reacting, deferred, settled_value, pending_value, with_linked_values, promising}
 use Rattle.machine_laws.proofs.ConsistentRuns.{environments-are-consistent, new-heap-good}
-use Rattle.machine_laws.proofs.Counting.{distinct-times, none-issued}
+use Rattle.machine_laws.proofs.Counting.{count-cons, distinct-times, none-issued, one_when, times}
 use Rattle.machine_laws.proofs.ConsistentAnswers.{whole-of}
+use Rattle.machine_laws.proofs.Children.{keeps-link}
 use Rattle.machine_laws.proofs.ConsistentHeaps.{IsConsistentHeap, ComesTo, with-handle, with-frame}
-use Rattle.machine_laws.proofs.PromiseMaps.{none-promised, more-promised, settled-promised}
+use Rattle.machine_laws.proofs.ConsistentValues.{with-linked-value, with-one-changed}
+use Rattle.machine_laws.proofs.PromiseMaps.{none-promised, more-promised, reacted-promised, settled-promised}
+use Rattle.machine_laws.proofs.Reactions.{AreBelow}
 use Rattle.machine_laws.proofs.Rising.{none-map}
 use Rattle.machine_laws.proofs.handles.environments_are_consistent.Goals as goal
 
@@ -54,25 +60,70 @@ rooted-fit =
       promises = none-promised starting_values;
     }) refl (omega arith)
 
--- a promise is made of each of the two values, and the first one is settled
-promised-fit : IsConsistent (promising (promise undefined_value 1 ∷ promise null_value 0 ∷ []) (deferred 2 null_value ∷ []) (1 ∷ 2 ∷ []))
+-- a test of numbers tells that reactions are below a ticket
+all-lower : (ticket : ℕ) (ns : List ℕ) → list_all (λ n. nat_lt n ticket) ns ≡ true → All (λ n. n < ticket) ns
+all-lower ticket [] is = All-nil (λ n. n < ticket)
+all-lower ticket (n ∷ ns) is =
+    let both = and_parts (nat_lt n ticket) (list_all (λ m. nat_lt m ticket) ns) is in
+    All-cons (λ m. m < ticket) n ns (ltb-true n ticket both.0) (all-lower ticket ns both.1)
+
+are-below : (ticket : ℕ) (rs : List Promise) → list_all (λ r. list_all (λ n. nat_lt n ticket) r.reactions) rs ≡ true → All (AreBelow ticket) rs
+are-below ticket [] is = All-nil (AreBelow ticket)
+are-below ticket (r ∷ rs) is =
+    let both = and_parts (list_all (λ n. nat_lt n ticket) r.reactions) (list_all (λ x. list_all (λ n. nat_lt n ticket) x.reactions) rs) is in
+    All-cons (AreBelow ticket) r rs (all-lower ticket r.reactions both.0) (are-below ticket rs both.1)
+
+-- two values are made that may have links
+abbrev both_unlinked : Heap
+both_unlinked = with_linked promise_tag (with_linked promise_tag (holding two_held))
+
+unlinked-good : IsConsistentHeap both_unlinked
+unlinked-good =
+    let one : ComesTo (holding two_held) (with_linked promise_tag (holding two_held)) = with-linked-value (holding two_held) promise_tag two-good in
+    (with-linked-value (with_linked promise_tag (holding two_held)) promise_tag one.good).good
+
+links-first : ComesTo both_unlinked with_linked_values
+links-first =
+    with-one-changed both_unlinked settled_value (with_link undefined_value) (keeps-link (IsLiveAmong both_unlinked.values) undefined_value refl) unlinked-good
+
+-- a promise is made of each of them, with reactions, and the first one is settled with undefined
+promised-fit : IsConsistent
+    (promising (reacting settled_value 1 (1 ∷ 3 ∷ []) ∷ reacting pending_value 0 (2 ∷ []) ∷ []) (deferred 2 pending_value ∷ []) (1 ∷ 2 ∷ []))
 promised-fit =
-    let vs : List Value = (holding two_held).values in
-    let one : ArePromisesOf vs (with_promise undefined_value 1 no_promises) = more-promised undefined_value 1 vs no_promises refl (none-promised vs) in
-    let two : ArePromisesOf vs _ = more-promised null_value 2 vs (with_promise undefined_value 1 no_promises) refl one in
-    whole-of (promising (promise undefined_value 1 ∷ promise null_value 0 ∷ []) (deferred 2 null_value ∷ []) (1 ∷ 2 ∷ []))
+    let vs : List Value = both_unlinked.values in
+    let first : Promises = with_promise settled_value 1 no_promises in
+    let one : ArePromisesOf vs first = more-promised settled_value 1 vs no_promises refl refl (none-promised vs) in
+    let both : Promises = with_promise pending_value 2 first in
+    let two : ArePromisesOf vs both = more-promised pending_value 2 vs first refl refl one in
+    let three : ArePromisesOf vs (with_reaction settled_value 1 both) = reacted-promised settled_value 1 vs both (are-below 1 both.promises refl) two in
+    let some : Promises = with_reaction settled_value 1 both in
+    let four : ArePromisesOf vs (with_reaction pending_value 2 some) = reacted-promised pending_value 2 vs some (are-below 2 some.promises refl) three in
+    let more : Promises = with_reaction pending_value 2 some in
+    let five : ArePromisesOf vs (with_reaction settled_value 3 more) = reacted-promised settled_value 3 vs more (are-below 3 more.promises refl) four in
+    whole-of (promising (reacting settled_value 1 (1 ∷ 3 ∷ []) ∷ reacting pending_value 0 (2 ∷ []) ∷ []) (deferred 2 pending_value ∷ []) (1 ∷ 2 ∷ []))
     (record {
-      heap = two-good;
+      heap = links-first.good;
       referred = λ k d below. absurd (omega (arith, below));
       references = none-map;
       pending = tt;
       rooted = λ k d below. absurd (omega (arith, below));
-      promises = settled-promised 1 undefined_value 1 vs (with_promise null_value 2 (with_promise undefined_value 1 no_promises)) refl two;
+      promises = settled-promised 1 settled_value 1 undefined_value vs (with_reaction settled_value 3 more) refl links-first.live five;
     }) refl (omega arith)
 
 -- no promise is pending whose state is above 0
 state-above : (state : ℕ) → Some (state + 1) ≡ Some 0 → ⊥
 state-above state same = let no : state + 1 ≡ 0 = ap (λ o. unwrap_or o 0) same in absurd (omega (arith, no))
+
+-- a promise that stands alone is found
+state-own : (value state : ℕ) → promise_state (record { promises = promise value (state + 1) ∷ []; deferreds = []; issued = [] }) value ≡ Some (state + 1)
+state-own value state = rw (same-self value) refl
+
+-- a ticket that stands twice
+twice-apart : (ticket : ℕ) → IsDistinct nat_eq (ticket ∷ ticket ∷ []) → ⊥
+twice-apart ticket apart =
+    let once : times ticket (ticket ∷ ticket ∷ []) ≤ 1 = distinct-times ticket (ticket ∷ ticket ∷ []) apart in
+    let same : one_when (ticket == ticket) ≡ 1 = ap one_when (same-self ticket) in
+    absurd (omega (arith, once, same, count-cons (λ k. k == ticket) ticket (ticket ∷ []), count-cons (λ k. k == ticket) ticket []))
 
 deep-good : IsConsistentHeap (deep most_frames).heap
 deep-good = record {
@@ -114,14 +165,19 @@ law = record {
   pending = λ c. false≢true c.pending;
   rooted = λ c. false≢true (c.rooted 0 (record { function = 1; value = 6 }) (omega arith));
   child = λ c. false≢true (c.children 5 (fresh_value 1 body.Undefined) (omega arith) 0 0 (omega arith));
-  dead = λ c. false≢true (c.promises.live 0 (promise 6 0) (omega arith));
-  unpromised = λ c. let no : None ≡ Some 0 = c.promises.rows.pending 0 (deferred 1 1) (omega arith) in cc;
-  settled = λ state c. state-above state (c.promises.rows.pending 0 (deferred 1 2) (omega arith));
-  shared = λ c. absurd (omega (arith, distinct-times 2 (2 ∷ 2 ∷ []) c.promises.rows.apart));
-  falling_promises = λ c. absurd (omega (arith, c.promises.rows.promises.0 0 (promise 1 1) (omega arith)));
+  dead = λ c. false≢true (c.promises.live 0 (promise 8 0) (omega arith));
+  unpromised = λ c. let no : None ≡ Some 0 = c.promises.rows.pending 0 (deferred 1 2) (omega arith) in cc;
+  settled = λ value state c. state-above state (sym (state-own value state) ∙ c.promises.rows.pending 0 (deferred 1 value) (omega arith));
+  shared = λ c. absurd (omega (arith, distinct-times 7 (7 ∷ 7 ∷ []) c.promises.rows.apart));
+  linked = λ c. let no : Some 1 ≡ None = c.promises.unsettled 0 (deferred 1 6) (omega arith) in cc;
+  unlinked = λ state c. false≢true (c.promises.settled 0 (promise 7 1) (omega arith) (λ none. absurd (omega (arith, none))));
+  falling_reactions = λ c. absurd (omega (arith, (c.promises.rows.reactions 0 (promise 6 1) (omega arith)).0 0 0 (omega arith)));
+  reacts_twice = λ ticket c. absurd (omega (arith, (c.promises.rows.reactions 0 (promise 6 1) (omega arith)).0 0 0 (omega arith)));
+  shared_reaction = λ ticket c. twice-apart ticket c.promises.rows.once;
+  falling_promises = λ c. absurd (omega (arith, c.promises.rows.promises.0 0 (promise 6 1) (omega arith)));
   falling_deferreds = λ c. absurd (omega (arith, c.promises.rows.deferreds.0 0 (deferred 1 2) (omega arith)));
   falling_issued = λ c. absurd (omega (arith, c.promises.rows.numbers.0 0 0 (omega arith)));
-  unissued_deferred = λ c. false≢true (c.promises.rows.issued 0 (deferred 1 2) (omega arith));
+  unissued_deferred = λ c. false≢true (c.promises.rows.issued 0 (deferred 1 7) (omega arith));
   starting = λ c. false≢true (c.starting 0 0 (omega arith));
   scopes = λ c. absurd (omega (arith, c.frames));
   depth = λ c. absurd (omega (arith, c.depth));
