@@ -9,6 +9,7 @@ import pages
 HEAD = re.compile(r"(?:abbrev|unfoldable) pub (\w+) :")
 VARIANT = re.compile(r"\bcall\.(\w+)")
 WORD = re.compile(r"(?<![\w.)])(?:(status|out)\.(\w+)|(\d+)\b|([a-z_]\w*)\b(?! *=[^=]))")
+IS_THERE = re.compile(r"\bunless \(is_some \(((?:[^()]|\([^()]*\))+)\)\)")
 FIELD = re.compile(r"(\w+) = (.*?)(?=; \w+ = |;? *}$)", re.S)
 FORMS = {
     "register": "r", "register_or_none": "r?", "whole": "n", "short": "u", "signed": "i", "flag": "b", "text_argument": "t", "text_or_none": "t?",
@@ -81,17 +82,20 @@ def right_of(name, word):
     return next((it.right for it in of if it.has(word)), of[-1].right)
 
 
-def words_of(text, variant, seen, bound=()):
+def words_of(text, variant, seen, bound=(), there=()):
     """Yields what a text of the definitions comes to for a call, in its order: each status, `Out` and number, as `status` and its name. What a definition that
-    it names comes to stands in its place, but for those that were seen before, and for names that are bound there."""
+    it names comes to stands in its place, but for those that were seen before, and for names that are bound there. One that is given something that is there
+    comes to nothing by its clauses for `None`."""
     bound = {*bound, *re.findall(r"\w+", " ".join(re.findall(r"λ ([\w ]+)\.", text)))}
     for kind, name, digits, word in WORD.findall(text):
         if kind or digits:
             yield kind or "number", name or int(digits)
         elif word in definitions() and word not in bound and word not in seen:
             seen.add(word)
+            is_there = any(re.search(rf"\b{word} [^()]*\({re.escape(it)}\)", text) for it in there)
             for clause in clauses_for(word, variant):
-                yield from words_of(clause.right, variant, seen, re.findall(r"\w+", clause.left))
+                if not (is_there and clause.has("None")):
+                    yield from words_of(clause.right, variant, seen, re.findall(r"\w+", clause.left), there)
 
 
 def without_accepted(text):
@@ -162,10 +166,15 @@ class Facts:
         yield parts_of(told).get("answers", told)
         yield from (it.right for it in clauses_for("hub_answer", self.variant))
 
+    def there(self):
+        """Returns what is there where it is not refused, as its own refusals for want of that name it."""
+        named = [it for it in re.findall(r"\w+", parts_of(self.told()).get("refuses", "")) if it in definitions()]
+        return {it for name in named for clause in clauses_for(name, self.variant) for it in IS_THERE.findall(clause.right)}
+
     def answers(self):
         """Returns the variants of `Out` that it gives at once; a call of a function gives none."""
-        seen = {"refuses"}
-        return {name for it in self.answering() for kind, name in words_of(it, self.variant, seen) if kind == "out"}
+        seen, there = {"refuses"}, self.there()
+        return {name for it in self.answering() for kind, name in words_of(it, self.variant, seen, there=there) if kind == "out"}
 
     def outs(self):
         """Returns the variants of `Out` that it gives: where it gives none at once, what the end of the frame that it enters gives at the status 0."""

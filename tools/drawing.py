@@ -16,7 +16,7 @@ STYLE = """
 svg text{font:12px ui-monospace,Menlo,Consolas,monospace;fill:#222}
 .paper{fill:#fff}.no{fill:#999!important}.lane{fill:#f6f7f9}.head{font-weight:600;fill:#555!important}.host{fill:#777!important;font-style:italic}
 .refused{fill:#b00!important;font-weight:600}.frame{fill:#fff;stroke:#8aa}.init{stroke:#6b8}.call{stroke:#88c}.finalize{stroke:#c96}.hook{stroke:#b6a}
-.complete{stroke:#4aa}.item{stroke:#48c}.torn{stroke:#c44}.phase{fill:#666!important;font-size:10px!important}
+.reaction{stroke:#a80}.complete{stroke:#4aa}.item{stroke:#48c}.torn{stroke:#c44}.phase{fill:#666!important;font-size:10px!important}
 .arc{fill:none;stroke:#8ab;stroke-width:1.3}.withdrawn{stroke:#c66;stroke-dasharray:4 3}.starts{stroke:#4aa;stroke-dasharray:2 2}.tip{fill:#578}
 .on{stroke:#e80!important;stroke-width:2.6!important}.dim{opacity:.25}
 """

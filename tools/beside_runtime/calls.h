@@ -1145,6 +1145,10 @@ static void settle(frame *f, const char *name, int r, int h, napi_status with(na
 static void resolve_deferred(frame *f, int r, int h) { settle(f, "resolve_deferred", r, h, napi_resolve_deferred); }
 static void reject_deferred(frame *f, int r, int h) { settle(f, "reject_deferred", r, h, napi_reject_deferred); }
 
+/* Reactions. JavaScript has them, by `then`, and the manual has no call for them: these two are not made, and no reaction begins. */
+static void add_reaction(frame *f, int r, int e, u64 payload) { not_made(f, "add_reaction", "it is no call of Node-API"); }
+static void get_reaction_value(frame *f, int w) { not_made(f, "get_reaction_value", "it is no call of Node-API"); }
+
 /* Works. */
 static void execute(napi_env env, void *data) {
   work *it = data;
