@@ -1,0 +1,2 @@
+pub mod BufferTables
+pub mod Buffers

@@ -1,0 +1,192 @@
+//! Buffers and views by their values.
+ghost use Rattle.std.specs.Prelude.{◌≡◌, ◌+◌, ◌*◌, ◌^◌, ◌%◌, ◌≤◌, None, Some, false, IfOk, IfSome, IsSome, IsSomeAnd, OnOk, OnErr, is_some, option_map};
+ghost use Rattle.napi_types.specs.parts.Book.{due_where};
+ghost use Rattle.array_buffers.specs.Buffers.{no_buffers, most_buffer_bytes, most_bytes_together, IsElementSize, buffer_at, view_at, is_viewed, buffer_length, total_bytes, is_detached_buffer, live_bytes, buffer_ticket, view_end, element_read, with_buffer, with_view, with_detached, with_element_written, without_buffer, IsGivenTicket, is_this_ticket, AreWithinLimits};
+
+use crate::row::{BufferRow, ViewInfo};
+use crate::rows;
+use finalizer_queue::Book;
+use napi_types::{NoMemory, Ticket, ValueId};
+use std::alloc::Global;
+use std::collections::HashMap;
+use std::marker::Model;
+
+/// Array buffers and their views. A buffer and a view stay until their values are gone. The bytes of a buffer stay until it is detached or
+/// gone.
+#[derive(Drop)]
+pub struct Buffers {
+    alloc: Global,
+    // By the number of the value.
+    rows: HashMap<u64, BufferRow>,
+    // By the number of the value. A view has no bytes of its own.
+    views: HashMap<u64, ViewInfo>,
+    // How many bytes all buffers have together.
+    total: u64,
+}
+
+impl Model for Buffers {
+    ghost use Rattle.array_buffers.specs.Buffers.{Buffers};
+    ghost use Rattle.array_buffers.specs.BufferTables.{buffers_of, StandsForBuffers};
+
+    ghost Value = { Buffers };
+
+    ghost view = { λ b. buffers_of b.rows.entries b.views.entries };
+
+    ghost invariant = { λ b. StandsForBuffers b.total (buffers_of b.rows.entries b.views.entries) };
+}
+
+impl Buffers {
+    /// No buffers.
+    pub fn new(alloc: Global) -> Result<Buffers, NoMemory>
+        ensures { IfOk result (λ b. b ≡ no_buffers) }
+    {
+        Ok(Buffers {
+            alloc,
+            rows: HashMap::new(alloc),
+            views: HashMap::new(alloc),
+            total: 0,
+        })
+    }
+
+    /// No effect. Its clause is what holds of all buffers and views.
+    pub fn invariant(&self)
+        ensures { AreWithinLimits self.now }
+    {
+        let _total = self.total;
+    }
+
+    /// Makes a buffer of a value that is none, and in which no view lies: the manual's `napi_create_arraybuffer`, and with the ticket of
+    /// its finalizer `napi_create_external_arraybuffer`. It has this many bytes, which are 0: at most 1,048,576, and together with those
+    /// of the other buffers at most 268,435,456.
+    ///
+    /// Its bytes are taken at once, in time linear in how many they are. Now and then the table of buffers grows.
+    pub fn make(
+        &mut self,
+        value: ValueId,
+        length: u32,
+        ticket: Option<Ticket>,
+    ) -> Result<(), NoMemory>
+        requires few { length ≤ most_buffer_bytes }
+        requires together { total_bytes self.old + length ≤ most_bytes_together }
+        requires absent { buffer_at self.old value.0 ≡ None }
+        requires unviewed { is_viewed self.old value.0 ≡ false }
+        ensures made { OnOk result (self.new ≡ with_buffer value.0 length (option_map (λ t. t.0) ticket) self.old) }
+        ensures err { OnErr result (self.new ≡ self.old) }
+    {
+        let bytes = vec![in self.alloc; 0; length as usize]?;
+        let row = BufferRow {
+            bytes: Some(bytes),
+            ticket,
+        };
+        rows::put(&mut self.rows, value, row)?;
+        self.total += length as u64;
+        Ok(())
+    }
+
+    /// Makes a view of a value: the manual's `napi_create_typedarray`. It lies in a buffer. The end of one that is detached is 0.
+    ///
+    /// Near constant time: now and then the table of views grows.
+    pub fn view(&mut self, value: ValueId, about: ViewInfo) -> Result<(), NoMemory>
+        requires size { IsElementSize about.size }
+        requires within { IsSomeAnd (buffer_length self.old about.buffer.0) (λ end. view_end about ≤ end) }
+        ensures made { OnOk result (self.new ≡ with_view value.0 about self.old) }
+        ensures err { OnErr result (self.new ≡ self.old) }
+    {
+        self.views.insert(value.0, about)?;
+        Ok(())
+    }
+
+    /// How many bytes all buffers have together. One that is detached has none.
+    ///
+    /// Constant time.
+    pub fn total(&self) -> u64
+        ensures { result ≡ total_bytes self.now }
+    {
+        self.total
+    }
+
+    /// How many bytes a buffer has: the manual's `napi_get_arraybuffer_info`. 0 once it is detached. `None` exactly where the value is no
+    /// buffer.
+    ///
+    /// Near constant time.
+    pub fn length(&self, value: ValueId) -> Option<u32>
+        ensures { result ≡ buffer_length self.now value.0 }
+    {
+        let row = self.rows.get(&value.0)?;
+        Some(row.length() as u32)
+    }
+
+    /// Whether a value is a buffer that is detached: the manual's `napi_is_detached_arraybuffer`.
+    ///
+    /// Near constant time.
+    pub fn detached(&self, value: ValueId) -> bool
+        ensures { result ≡ is_detached_buffer self.now value.0 }
+    {
+        match self.rows.get(&value.0) {
+            Some(row) => row.bytes.is_none(),
+            None => false,
+        }
+    }
+
+    /// Where a view lies. `None` exactly where the value is no view.
+    ///
+    /// Near constant time.
+    pub fn about(&self, value: ValueId) -> Option<ViewInfo>
+        ensures { result ≡ view_at self.now value.0 }
+    {
+        self.views.get(&value.0).copied()
+    }
+
+    /// Detaches a buffer that is not detached: the manual's `napi_detach_arraybuffer`. Its bytes leave the sum, its ticket stays.
+    ///
+    /// Near constant time. It takes no memory.
+    pub fn detach(&mut self, value: ValueId)
+        requires { IsSome (live_bytes self.old value.0) }
+        ensures { self.new ≡ with_detached value.0 self.old }
+    {
+        let given_back = rows::detach(&mut self.rows, value);
+        self.total -= given_back as u64;
+    }
+
+    /// The element of a view at an index. `None` exactly where the value is no view, the index is not below its length, or its buffer is
+    /// detached.
+    ///
+    /// Near constant time, whatever the buffer's length.
+    pub fn get(&self, view: ValueId, at: u64) -> Option<u64>
+        ensures { result ≡ element_read self.now view.0 at }
+    {
+        let about = self.views.get(&view.0)?;
+        rows::read(&self.rows, *about, at)
+    }
+
+    /// Writes the element of a view at an index: the number modulo 2 to the power of the element's bits. False exactly where
+    /// [`Buffers::get`] gives `None`; nothing changes then.
+    ///
+    /// Near constant time, whatever the buffer's length. It takes no memory.
+    pub fn set(&mut self, view: ValueId, at: u64, to: u64) -> bool
+        ensures accepted { result ≡ is_some (element_read self.old view.0 at) }
+        ensures written { self.new ≡ with_element_written view.0 at to self.old }
+        ensures kept { IfSome (view_at self.old view.0) (λ about. element_read self.new view.0 at
+            ≡ option_map (λ _. to % 2 ^ (8 * about.size)) (element_read self.old view.0 at)) }
+    {
+        let Some(about) = self.views.get(&view.0).copied() else {
+            return false;
+        };
+        rows::write(&mut self.rows, about, at, to)
+    }
+
+    /// A value is gone: where it was a buffer, so are its bytes, and its ticket falls due where it has one that is registered; where it
+    /// was a view, that is gone. The book gave the ticket.
+    ///
+    /// Near constant time, beside the logarithm of how many tickets are due. It takes no memory.
+    pub fn gone(&mut self, value: ValueId, book: &mut Book)
+        requires { IsGivenTicket (buffer_ticket self.old value.0) book.old.book }
+        ensures forgotten { self.new ≡ without_buffer value.0 self.old }
+        ensures due { book.new.book ≡ due_where (is_this_ticket (buffer_ticket self.old value.0)) book.old.book }
+        ensures spare { book.old.spare ≤ book.new.spare }
+    {
+        self.views.remove(&value.0);
+        let given_back = rows::take(&mut self.rows, value, book);
+        self.total -= given_back as u64;
+    }
+}
