@@ -1,3 +1,4 @@
+pub mod BareBuffers
 pub mod FewItems
 pub mod HubsGoOn
 pub mod ManyPromises

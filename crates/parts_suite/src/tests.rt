@@ -4,6 +4,7 @@ ghost use Rattle.std.specs.Prelude.{◌≡◌, Ok};
 use napi_types::NoMemory;
 use std::process::Abort;
 
+mod buffers;
 mod function_list;
 mod functions;
 mod hub;
