@@ -107,16 +107,16 @@ module _ {J : Type 0} (spec : J → JobSpec) where
   unnumbered (standing.Numbered n) never = absurd (never n refl)
 
 -- the places are the same but for that of one id
-pub record Replaced (places others : List (HeldValue Placed)) (id : ℕ) (place : Option Placed) : Type 0 where
+pub record ReplacedPlace (places others : List (HeldValue Placed)) (id : ℕ) (place : Option Placed) : Type 0 where
   pub at : (m : ℕ) → place_at others m ≡ cond (id == m) place (place_at places m)
 
-pub replaced-made : (places : List (HeldValue Placed)) (id : ℕ) (p : Placed) → Replaced places (with_held id p places) id (Some p)
+pub replaced-made : (places : List (HeldValue Placed)) (id : ℕ) (p : Placed) → ReplacedPlace places (with_held id p places) id (Some p)
 replaced-made places id p = record {
   at = λ m. ap (option_map (λ (h : HeldValue Placed). h.value)) (found-with_record (λ (h : HeldValue Placed). h.number) m (record { number = id; value = p }) places)
       ∙ chosen (option_map (λ (h : HeldValue Placed). h.value)) (id == m) (Some (record { number = id; value = p })) (found (λ h. h.number) m places);
 }
 
-pub replaced-freed : (places : List (HeldValue Placed)) (id : ℕ) → Replaced places (without_held id places) id None
+pub replaced-freed : (places : List (HeldValue Placed)) (id : ℕ) → ReplacedPlace places (without_held id places) id None
 replaced-freed places id = record {
   at = λ m. ap (option_map (λ (h : HeldValue Placed). h.value)) (found-filter (λ (h : HeldValue Placed). h.number) (λ k. not (k == id)) m places)
       ∙ ap (λ b. option_map (λ (h : HeldValue Placed). h.value) (cond (not b) (found (λ h. h.number) m places) None)) (turned m id) ∙ by m (id == m);
@@ -134,7 +134,7 @@ numbering-keeps id n h = by (h.number == id)
     by false = refl
 
 pub replaced-numbered : (places : List (HeldValue Placed)) (id n : ℕ) (p : Placed) → place_at places id ≡ Some p
-    → Replaced places (with_number_at id n places) id (Some (with_place_number n p))
+    → ReplacedPlace places (with_number_at id n places) id (Some (with_place_number n p))
 replaced-numbered places id n p is = record {
   at = λ m. ap (option_map (λ (h : HeldValue Placed). h.value))
       (found-changed (λ (h : HeldValue Placed). h.number) (λ h. cond (h.number == id) (with_value (with_place_number n h.value) h) h) (numbering-keeps id n) m places)
@@ -218,7 +218,7 @@ new-absent places issued id known new = by (place_at places id) refl
     by None at = refl
     by (Some p) at = absurd (never (0 == id) (ap (λ b. (0 == id) || b) (sym (known id p at)) ∙ new))
 
-pub issued-made : (places others : List (HeldValue Placed)) (issued : List ℕ) (id : ℕ) (p : Placed) → Replaced places others id (Some p) → HaveIssuedIds places issued
+pub issued-made : (places others : List (HeldValue Placed)) (issued : List ℕ) (id : ℕ) (p : Placed) → ReplacedPlace places others id (Some p) → HaveIssuedIds places issued
     → HaveIssuedIds others (with_number id issued)
 issued-made places others issued id p change known m q is = has-with_number m id issued ∙ by (id == m) (sym (change.at m) ∙ is)
   where
@@ -226,7 +226,7 @@ issued-made places others issued id p change known m q is = has-with_number m id
     by true told = refl
     by false told = known m q told
 
-pub issued-freed : (places others : List (HeldValue Placed)) (issued : List ℕ) (id : ℕ) → Replaced places others id None → HaveIssuedIds places issued → HaveIssuedIds others issued
+pub issued-freed : (places others : List (HeldValue Placed)) (issued : List ℕ) (id : ℕ) → ReplacedPlace places others id None → HaveIssuedIds places issued → HaveIssuedIds others issued
 issued-freed places others issued id change known m q is = by (id == m) (sym (change.at m) ∙ is)
   where
     by : (b : Bool) → cond b None (place_at places m) ≡ Some q → has_number m issued ≡ true
@@ -234,7 +234,7 @@ issued-freed places others issued id change known m q is = by (id == m) (sym (ch
     by false told = known m q told
 
 pub issued-kept : (places others : List (HeldValue Placed)) (issued : List ℕ) (id : ℕ) (p place : Placed) → place_at places id ≡ Some p
-    → Replaced places others id (Some place) → HaveIssuedIds places issued → HaveIssuedIds others issued
+    → ReplacedPlace places others id (Some place) → HaveIssuedIds places issued → HaveIssuedIds others issued
 issued-kept places others issued id p place there change known m q is = by (id == m) refl (sym (change.at m) ∙ is)
   where
     by : (b : Bool) → (id == m) ≡ b → cond b (Some place) (place_at places m) ≡ Some q → has_number m issued ≡ true

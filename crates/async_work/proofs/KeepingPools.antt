@@ -12,7 +12,7 @@ use Rattle.napi_types.proofs.plain.Maps.{filter_all}
 use Rattle.async_work.specs.WorkPlaces.{Placed, place_at, is_unqueued, with_place_number, with_number_at}
 use Rattle.async_work.specs.Queue.{QueueStage, StillQueued, Runs, Ended, Done, NumberedWork, EndedWorkSeen, waiting_job, runner, has_ended, is_done_in_queue, with_stage, queue_work_at, queue_stage_at, queued_at, runner_at, ended_at, waiting_works, executions}
 use Rattle.async_work.specs.KeptPool.{KeepsJob, IsQueue, EndedOnce, IsKeptPool}
-use Rattle.async_work.proofs.Ids.{Replaced, replaced-made, replaced-freed, replaced-numbered, held-at, none-held, new-absent, issued-made, issued-freed, issued-kept, length-issued}
+use Rattle.async_work.proofs.Ids.{ReplacedPlace, replaced-made, replaced-freed, replaced-numbered, held-at, none-held, new-absent, issued-made, issued-freed, issued-kept, length-issued}
 use Rattle.async_work.proofs.Mapped.{count-less, count-more, count-changed}
 use Rattle.async_work.proofs.Queueing.{Restaged, restaged, stage-restaged, stage-push, stage-past, waiting-same, waiting-less, waiting-more, waiting-none, waiting-first, has-waiting, length-less}
 use Rattle.async_work.proofs.PoolExecutions.{AreApart, apart-less, apart-started, executions-same, executions-started, executions-finished, length-finished, idle-worker}
@@ -153,7 +153,7 @@ module _ (places : List (HeldValue Placed)) (issued : List ℕ) (line : List Num
     shut = kept.shut;
   })
     where
-      change : Replaced places (with_held id p places) id (Some p)
+      change : ReplacedPlace places (with_held id p places) id (Some p)
       change = replaced-made places id p
 
       absent : place_at places id ≡ None
@@ -187,7 +187,7 @@ module _ (places : List (HeldValue Placed)) (issued : List ℕ) (line : List Num
     shut = kept.shut;
   })
     where
-      change : Replaced places (without_held id places) id None
+      change : ReplacedPlace places (without_held id places) id None
       change = replaced-freed places id
 
       counted : count_by is_unqueued (without_held id places) + cond (is_none p.number) 1 0 ≡ count_by is_unqueued places
@@ -226,7 +226,7 @@ module _ (places : List (HeldValue Placed)) (issued : List ℕ) (line : List Num
     shut = λ shut. let no : ⊥ = cc in absurd no;
   })
     where
-      change : Replaced places (with_number_at id n places) id (Some (with_place_number n p))
+      change : ReplacedPlace places (with_number_at id n places) id (Some (with_place_number n p))
       change = replaced-numbered places id n p is
 
       only : OnlyWaits e.stage

@@ -9,7 +9,7 @@ use Rattle.napi_types.proofs.plain.Found.{same-self, same-tells, apart-above}
 use Rattle.async_work.specs.WorkPlaces.{Placed, place_at, with_place_number}
 use Rattle.async_work.specs.Queue.{QueueStage, StillQueued, Runs, Ended, Done, NumberedWork, EndedWorkSeen, waiting_job, has_ended, is_done_in_queue, with_stage, queue_work_at, queue_stage_at, queue_id_at, ended_at}
 use Rattle.async_work.specs.KeptPool.{StandsInQueue, KeepsJob, IsNumberOf, AreLinked, EndedOnce}
-use Rattle.async_work.proofs.Ids.{Replaced}
+use Rattle.async_work.proofs.Ids.{ReplacedPlace}
 use Rattle.async_work.proofs.Queueing.{Restaged, stage-restaged, id-restaged, id-other, entry-push, stage-push, stage-past, stage-in_line, id-in_line}
 
 pub same-some : {A : Type 0} (x y : A) → Some x ≡ Some y → x ≡ y
@@ -35,7 +35,7 @@ apart-of m n apart = by (m == n) refl
     by false is = refl
 
 -- a work that was there still is once another is created
-pub place_at-old : (places others : List (HeldValue Placed)) (id : ℕ) (p : Placed) (m : ℕ) (q : Placed) → place_at places id ≡ None → Replaced places others id (Some p)
+pub place_at-old : (places others : List (HeldValue Placed)) (id : ℕ) (p : Placed) (m : ℕ) (q : Placed) → place_at places id ≡ None → ReplacedPlace places others id (Some p)
     → place_at places m ≡ Some q → place_at others m ≡ Some q
 place_at-old places others id p m q absent change is = change.at m ∙ ap (λ b. cond b (Some p) (place_at places m)) (apart-of id m other) ∙ is
   where
@@ -48,7 +48,7 @@ stage-of line n e is = ap (λ o. option_map_or (λ (x : NumberedWork). x.stage) 
 -- A WORK IS CREATED
 pub linked-created : (places others : List (HeldValue Placed)) (line : List NumberedWork) (id : ℕ) (p : Placed) → AreLinked places line
     → place_at places id ≡ None
-    → Replaced places others id (Some p) → p.number ≡ None → p.job ≡ Some p.spec → AreLinked others line
+    → ReplacedPlace places others id (Some p) → p.number ≡ None → p.job ≡ Some p.spec → AreLinked others line
 linked-created places others line id p linked absent change none held = record {
   named = λ m q is. named m q (id == m) (sym (change.at m) ∙ is);
   held = λ m q is. keeps m q (id == m) (sym (change.at m) ∙ is);
@@ -68,7 +68,7 @@ linked-created places others line id p linked absent change none held = record {
 
 -- A WORK IS DELETED
 pub linked-deleted : (places others : List (HeldValue Placed)) (line : List NumberedWork) (id : ℕ) (p : Placed) → AreLinked places line
-    → place_at places id ≡ Some p → Replaced places others id None
+    → place_at places id ≡ Some p → ReplacedPlace places others id None
     → ((n : ℕ) → p.number ≡ Some n → is_done_in_queue (queue_stage_at line n) ≡ true) → AreLinked others line
 linked-deleted places others line id p linked is change done = record {
   named = λ m q told. linked.named m q (before m q (id == m) (sym (change.at m) ∙ told));
@@ -98,7 +98,7 @@ linked-deleted places others line id p linked is change done = record {
 -- A WORK IS QUEUED
 pub linked-queued : (places others : List (HeldValue Placed)) (line : List NumberedWork) (id n : ℕ) (p : Placed) (e : NumberedWork) → AreLinked places line
     → n ≡ length line + 1 → place_at places id ≡ Some p → p.number ≡ None
-    → Replaced places others id (Some (with_place_number n p)) → e.id ≡ id → waiting_job e.stage ≡ Some p.spec → AreLinked others (line ++ e ∷ [])
+    → ReplacedPlace places others id (Some (with_place_number n p)) → e.id ≡ id → waiting_job e.stage ≡ Some p.spec → AreLinked others (line ++ e ∷ [])
 linked-queued places others line id n p e linked new is none change its waits_for = record {
   named = λ m q told. named m q (id == m) refl (sym (change.at m) ∙ told);
   held = λ m q told. keeps m q (id == m) (sym (change.at m) ∙ told);
@@ -243,7 +243,7 @@ told-all places others line finished out before k d inside =
     (out.told k d inside)
 
 pub out-created : (places others : List (HeldValue Placed)) (line : List NumberedWork) (finished : List EndedWorkSeen) (id : ℕ) (p : Placed) → p.number ≡ None
-    → Replaced places others id (Some p) → EndedOnce places line finished → EndedOnce others line finished
+    → ReplacedPlace places others id (Some p) → EndedOnce places line finished → EndedOnce others line finished
 out-created places others line finished id p none change out = record {
   once = out.once;
   told = told-all places others line finished out (λ n ended m q at number. by n m q (id == m) (sym (change.at m) ∙ at) number);
@@ -257,7 +257,7 @@ out-created places others line finished id p none change out = record {
     by n m q false told number = (q, told, number, refl)
 
 pub out-deleted : (places others : List (HeldValue Placed)) (line : List NumberedWork) (finished : List EndedWorkSeen) (id : ℕ)
-    → EndedOnce places line finished → Replaced places others id None → EndedOnce others line finished
+    → EndedOnce places line finished → ReplacedPlace places others id None → EndedOnce others line finished
 out-deleted places others line finished id out change = record {
   once = out.once;
   told = told-all places others line finished out (λ n ended m q at number. by n m q (id == m) (sym (change.at m) ∙ at) number);
@@ -270,7 +270,7 @@ out-deleted places others line finished id out change = record {
 
 pub out-queued : (places others : List (HeldValue Placed)) (line : List NumberedWork) (finished : List EndedWorkSeen) (id n : ℕ) (p : Placed) (e : NumberedWork)
     → EndedOnce places line finished → n ≡ length line + 1
-    → Replaced places others id (Some (with_place_number n p)) → has_ended e.stage ≡ false → EndedOnce others (line ++ e ∷ []) finished
+    → ReplacedPlace places others id (Some (with_place_number n p)) → has_ended e.stage ≡ false → EndedOnce others (line ++ e ∷ []) finished
 out-queued places others line finished id n p e out new change waits_still = record {
   once = λ m. out.once m ∙ ap (λ b. cond b 1 0) (sym (same m (length line + 1 == m) refl));
   told = told-all places others line finished out (λ k ended m q at number. by k m q ended (id == m) (sym (change.at m) ∙ at) number);

@@ -17,11 +17,11 @@ use Rattle.napi_types.proofs.environment.HookedBooks.{rise-push}
 use Rattle.cleanup_hooks.specs.declared.asynchronous.AsyncState.{AsyncState}
 use Rattle.cleanup_hooks.specs.declared.asynchronous.AsyncState.TheVariants as kept
 use Rattle.cleanup_hooks.specs.declared.asynchronous.AsyncRow.{AsyncRow}
-use Rattle.cleanup_hooks.specs.AsyncRows.{state_seen, abandoned_state, async_hook_of, async_hooks_from, async_hooks_of, IsKeptTable}
+use Rattle.cleanup_hooks.specs.AsyncRows.{hook_state_seen, abandoned_state, async_hook_of, async_hooks_from, async_hooks_of, IsKeptTable}
 
 -- the tickets of hooks
-abbrev pub tickets_of : List AsyncHook → List ℕ
-tickets_of hooks = map (λ h. h.ticket) hooks
+abbrev pub hook_tickets : List AsyncHook → List ℕ
+hook_tickets hooks = map (λ h. h.ticket) hooks
 
 -- READ
 pub length_from : (k : ℕ) (rows : List AsyncRow) → length (async_hooks_from k rows) ≡ length rows
@@ -62,15 +62,15 @@ from_push k n (r ∷ rs) x is = ap (λ hs. async_hook_of k r ∷ hs) (from_push 
 -- A ROW CHANGES
 -- a row that keeps its ticket leaves all tickets
 tickets-set : (k p : ℕ) (rows : List AsyncRow) (x y : AsyncRow) → slice_get rows p ≡ Some x → y.ticket.0 ≡ x.ticket.0
-    → tickets_of (async_hooks_from k (set rows p y)) ≡ tickets_of (async_hooks_from k rows)
+    → hook_tickets (async_hooks_from k (set rows p y)) ≡ hook_tickets (async_hooks_from k rows)
 tickets-set k p [] x y here is = refl
 tickets-set k zero (r ∷ rs) x y here is =
     let same : r ≡ x = cc in
-    ap (λ t. t ∷ tickets_of (async_hooks_from (suc k) rs)) (is ∙ ap (λ (q : AsyncRow). q.ticket.0) (sym same))
+    ap (λ t. t ∷ hook_tickets (async_hooks_from (suc k) rs)) (is ∙ ap (λ (q : AsyncRow). q.ticket.0) (sym same))
 tickets-set k (suc p) (r ∷ rs) x y here is = ap (λ ts. r.ticket.0 ∷ ts) (tickets-set (suc k) p rs x y here is)
 
 pub rising-set : (p : ℕ) (rows : List AsyncRow) (x y : AsyncRow) → slice_get rows p ≡ Some x → y.ticket.0 ≡ x.ticket.0
-    → TicketsRise (tickets_of (async_hooks_of rows)) → TicketsRise (tickets_of (async_hooks_of (set rows p y)))
+    → TicketsRise (hook_tickets (async_hooks_of rows)) → TicketsRise (hook_tickets (async_hooks_of (set rows p y)))
 rising-set p rows x y here is rise = subst TicketsRise (sym (tickets-set 1 p rows x y here is)) rise
 
 counted-first : (h : AsyncHook) (hs : List AsyncHook) → count_waiting (h ∷ hs) ≡ one_if (is_waiting h.state) + count_waiting hs
@@ -81,13 +81,13 @@ counted-first h hs = by (is_waiting h.state) refl
     by false is = omega arith
 
 pub counted-set : (k p : ℕ) (rows : List AsyncRow) (x y : AsyncRow) → slice_get rows p ≡ Some x
-    → count_waiting (async_hooks_from k (set rows p y)) + one_if (is_waiting (state_seen x.state)) ≡ count_waiting (async_hooks_from k rows) + one_if (is_waiting (state_seen y.state))
+    → count_waiting (async_hooks_from k (set rows p y)) + one_if (is_waiting (hook_state_seen x.state)) ≡ count_waiting (async_hooks_from k rows) + one_if (is_waiting (hook_state_seen y.state))
 counted-set k p [] x y here = let no : ⊥ = cc in absurd no
 counted-set k zero (r ∷ rs) x y here =
     let same : r ≡ x = cc in
     let before = counted-first (async_hook_of k r) (async_hooks_from (suc k) rs) in
     let after = counted-first (async_hook_of k y) (async_hooks_from (suc k) rs) in
-    let read : one_if (is_waiting (state_seen r.state)) ≡ one_if (is_waiting (state_seen x.state)) = ap (λ (q : AsyncRow). one_if (is_waiting (state_seen q.state))) same in
+    let read : one_if (is_waiting (hook_state_seen r.state)) ≡ one_if (is_waiting (hook_state_seen x.state)) = ap (λ (q : AsyncRow). one_if (is_waiting (hook_state_seen q.state))) same in
     omega (arith, before, after, read)
 counted-set k (suc p) (r ∷ rs) x y here =
     let before = counted-first (async_hook_of k r) (async_hooks_from (suc k) rs) in
@@ -111,22 +111,22 @@ removed-at k (suc p) n (r ∷ rs) x y at here is =
 
 -- BEGUN
 -- the ticket of a row is among those of the hooks
-ticket-above : (k p n : ℕ) (rows : List AsyncRow) (x : AsyncRow) → slice_get rows p ≡ Some x → All (λ m. n < m) (tickets_of (async_hooks_from k rows)) → n < x.ticket.0
+ticket-above : (k p n : ℕ) (rows : List AsyncRow) (x : AsyncRow) → slice_get rows p ≡ Some x → All (λ m. n < m) (hook_tickets (async_hooks_from k rows)) → n < x.ticket.0
 ticket-above k p n [] x here above = let no : ⊥ = cc in absurd no
 ticket-above k zero n (r ∷ rs) x here above =
     let same : r ≡ x = cc in
-    subst (λ (q : AsyncRow). n < q.ticket.0) same (All-head (λ m. n < m) r.ticket.0 (tickets_of (async_hooks_from (suc k) rs)) above)
+    subst (λ (q : AsyncRow). n < q.ticket.0) same (All-head (λ m. n < m) r.ticket.0 (hook_tickets (async_hooks_from (suc k) rs)) above)
 ticket-above k (suc p) n (r ∷ rs) x here above =
-    ticket-above (suc k) p n rs x here (All-tail (λ m. n < m) r.ticket.0 (tickets_of (async_hooks_from (suc k) rs)) above)
+    ticket-above (suc k) p n rs x here (All-tail (λ m. n < m) r.ticket.0 (hook_tickets (async_hooks_from (suc k) rs)) above)
 
-begun-above : (k t : ℕ) (rows : List AsyncRow) → All (λ m. t < m) (tickets_of (async_hooks_from k rows)) → with_begun t (async_hooks_from k rows) ≡ async_hooks_from k rows
+begun-above : (k t : ℕ) (rows : List AsyncRow) → All (λ m. t < m) (hook_tickets (async_hooks_from k rows)) → with_begun t (async_hooks_from k rows) ≡ async_hooks_from k rows
 begun-above k t [] above = refl
 begun-above k t (r ∷ rs) above =
-    rw (apart-above t r.ticket.0 (All-head (λ m. t < m) r.ticket.0 (tickets_of (async_hooks_from (suc k) rs)) above))
-    (ap (λ hs. async_hook_of k r ∷ hs) (begun-above (suc k) t rs (All-tail (λ m. t < m) r.ticket.0 (tickets_of (async_hooks_from (suc k) rs)) above)))
+    rw (apart-above t r.ticket.0 (All-head (λ m. t < m) r.ticket.0 (hook_tickets (async_hooks_from (suc k) rs)) above))
+    (ap (λ hs. async_hook_of k r ∷ hs) (begun-above (suc k) t rs (All-tail (λ m. t < m) r.ticket.0 (hook_tickets (async_hooks_from (suc k) rs)) above)))
 
 -- a row is written as that of a hook that waits
-pub begun-at : (k p : ℕ) (rows : List AsyncRow) (x y : AsyncRow) → TicketsRise (tickets_of (async_hooks_from k rows)) → slice_get rows p ≡ Some x → y ≡ record { ticket = x.ticket; state = kept.Waiting }
+pub begun-at : (k p : ℕ) (rows : List AsyncRow) (x y : AsyncRow) → TicketsRise (hook_tickets (async_hooks_from k rows)) → slice_get rows p ≡ Some x → y ≡ record { ticket = x.ticket; state = kept.Waiting }
     → async_hooks_from k (set rows p y) ≡ with_begun x.ticket.0 (async_hooks_from k rows)
 begun-at k p [] x y rise here is = let no : ⊥ = cc in absurd no
 begun-at k zero (r ∷ rs) x y rise here is =
@@ -144,7 +144,7 @@ abbrev pub abandoned_row : AsyncRow → AsyncRow
 abandoned_row r = record { ticket = r.ticket; state = abandoned_state r.state }
 
 abandoned-hook : (k : ℕ) (t : Ticket) (s : AsyncState) → async_hook_of k (record { ticket = t; state = abandoned_state s })
-    ≡ cond (is_waiting (state_seen s)) (in_state Abandoned (async_hook_of k (record { ticket = t; state = s }))) (async_hook_of k (record { ticket = t; state = s }))
+    ≡ cond (is_waiting (hook_state_seen s)) (in_state Abandoned (async_hook_of k (record { ticket = t; state = s }))) (async_hook_of k (record { ticket = t; state = s }))
 abandoned-hook k t kept.Set = refl
 abandoned-hook k t kept.Waiting = refl
 abandoned-hook k t kept.Abandoned = refl
@@ -156,11 +156,11 @@ abandoned-all k (r ∷ rs) =
     ap (λ hs. async_hook_of k (abandoned_row r) ∷ hs) (abandoned-all (suc k) rs)
     ∙ ap (λ h. h ∷ with_abandoned (async_hooks_from (suc k) rs)) (abandoned-hook k r.ticket r.state)
 
-tickets-abandoned : (hooks : List AsyncHook) → tickets_of (with_abandoned hooks) ≡ tickets_of hooks
+tickets-abandoned : (hooks : List AsyncHook) → hook_tickets (with_abandoned hooks) ≡ hook_tickets hooks
 tickets-abandoned [] = refl
 tickets-abandoned (h ∷ hs) = by (is_waiting h.state) (tickets-abandoned hs)
   where
-    by : (b : Bool) → tickets_of (with_abandoned hs) ≡ tickets_of hs → (cond b (in_state Abandoned h) h).ticket ∷ tickets_of (with_abandoned hs) ≡ h.ticket ∷ tickets_of hs
+    by : (b : Bool) → hook_tickets (with_abandoned hs) ≡ hook_tickets hs → (cond b (in_state Abandoned h) h).ticket ∷ hook_tickets (with_abandoned hs) ≡ h.ticket ∷ hook_tickets hs
     by true later = ap (λ ts. h.ticket ∷ ts) later
     by false later = ap (λ ts. h.ticket ∷ ts) later
 
@@ -176,7 +176,7 @@ pub table-abandoned : (rows new : List AsyncRow) (waiting : ℕ) → new ≡ map
 table-abandoned rows new waiting is k =
     let whole : async_hooks_of new ≡ with_abandoned (async_hooks_of rows) = ap (λ rs. async_hooks_of rs) is ∙ abandoned-all 1 rows in
     record {
-      rising = subst TicketsRise (sym (ap tickets_of whole ∙ tickets-abandoned (async_hooks_of rows))) k.rising;
+      rising = subst TicketsRise (sym (ap hook_tickets whole ∙ tickets-abandoned (async_hooks_of rows))) k.rising;
       counted = sym (ap count_waiting whole ∙ none-waiting (async_hooks_of rows));
     }
 
@@ -187,10 +187,10 @@ table-pushed rows waiting x set below k =
     let n : ℕ = length rows + 1 in
     let h : AsyncHook = async_hook_of n x in
     let whole : async_hooks_of (rows ++ x ∷ []) ≡ async_hooks_of rows ++ h ∷ [] = from_push 1 n rows x (omega arith) in
-    let unseen : is_waiting (state_seen x.state) ≡ false = ap (λ (s : AsyncState). is_waiting (state_seen s)) set in
+    let unseen : is_waiting (hook_state_seen x.state) ≡ false = ap (λ (s : AsyncState). is_waiting (hook_state_seen s)) set in
     record {
-      rising = subst TicketsRise (sym (ap tickets_of whole ∙ map-append (λ (q : AsyncHook). q.ticket) (async_hooks_of rows) (h ∷ [])))
-          (rise-push (tickets_of (async_hooks_of rows)) x.ticket.0 (All-map (λ m. m < x.ticket.0) (λ (q : AsyncHook). q.ticket) (async_hooks_of rows) below) k.rising);
+      rising = subst TicketsRise (sym (ap hook_tickets whole ∙ map-append (λ (q : AsyncHook). q.ticket) (async_hooks_of rows) (h ∷ [])))
+          (rise-push (hook_tickets (async_hooks_of rows)) x.ticket.0 (All-map (λ m. m < x.ticket.0) (λ (q : AsyncHook). q.ticket) (async_hooks_of rows) below) k.rising);
       counted = k.counted ∙ sym (ap count_waiting whole ∙ unchanged (async_hooks_of rows) h unseen);
     }
   where
@@ -202,7 +202,7 @@ table-pushed rows waiting x set below k =
         omega (arith, before, after, unchanged hs h is)
 
 pub table-set : (rows : List AsyncRow) (waiting new_waiting p : ℕ) (x y : AsyncRow) → slice_get rows p ≡ Some x → y.ticket.0 ≡ x.ticket.0
-    → new_waiting + one_if (is_waiting (state_seen x.state)) ≡ waiting + one_if (is_waiting (state_seen y.state))
+    → new_waiting + one_if (is_waiting (hook_state_seen x.state)) ≡ waiting + one_if (is_waiting (hook_state_seen y.state))
     → IsKeptTable rows waiting → IsKeptTable (set rows p y) new_waiting
 table-set rows waiting new_waiting p x y here is counts k = record {
   rising = rising-set p rows x y here is k.rising;
@@ -210,7 +210,7 @@ table-set rows waiting new_waiting p x y here is counts k = record {
 }
 
 -- a hook that waits is counted
-pub waits-counted : (rows : List AsyncRow) (waiting p n : ℕ) (x : AsyncRow) → slice_get rows p ≡ Some x → n ≡ one_if (is_waiting (state_seen x.state))
+pub waits-counted : (rows : List AsyncRow) (waiting p n : ℕ) (x : AsyncRow) → slice_get rows p ≡ Some x → n ≡ one_if (is_waiting (hook_state_seen x.state))
     → IsKeptTable rows waiting → n ≤ waiting
 waits-counted rows waiting p n x here is k =
     let y : AsyncRow = record { ticket = x.ticket; state = kept.Removed } in
@@ -239,23 +239,23 @@ one_if-most true = omega arith
 one_if-most false = omega arith
 
 -- a row is written as that of a hook that was removed
-pub table-removed : (rows : List AsyncRow) (waiting p n : ℕ) (x y : AsyncRow) → slice_get rows p ≡ Some x → n ≡ one_if (is_waiting (state_seen x.state)) → y ≡ record { ticket = x.ticket; state = kept.Removed }
+pub table-removed : (rows : List AsyncRow) (waiting p n : ℕ) (x y : AsyncRow) → slice_get rows p ≡ Some x → n ≡ one_if (is_waiting (hook_state_seen x.state)) → y ≡ record { ticket = x.ticket; state = kept.Removed }
     → IsKeptTable rows waiting → IsKeptTable (set rows p y) (waiting - n)
 table-removed rows waiting p n x y here counts is k =
     let least = waits-counted rows waiting p n x here counts k in
-    let none : one_if (is_waiting (state_seen y.state)) ≡ 0 = ap (λ (q : AsyncRow). one_if (is_waiting (state_seen q.state))) is in
+    let none : one_if (is_waiting (hook_state_seen y.state)) ≡ 0 = ap (λ (q : AsyncRow). one_if (is_waiting (hook_state_seen q.state))) is in
     table-set rows waiting (waiting - n) p x y here (ap (λ (q : AsyncRow). q.ticket.0) is) (omega (arith, least, none, counts)) k
 
 -- or as that of one that waits
-pub table-begun : (rows : List AsyncRow) (waiting p n : ℕ) (x y : AsyncRow) → slice_get rows p ≡ Some x → n ≡ one_if (is_waiting (state_seen x.state)) → y ≡ record { ticket = x.ticket; state = kept.Waiting }
+pub table-begun : (rows : List AsyncRow) (waiting p n : ℕ) (x y : AsyncRow) → slice_get rows p ≡ Some x → n ≡ one_if (is_waiting (hook_state_seen x.state)) → y ≡ record { ticket = x.ticket; state = kept.Waiting }
     → IsKeptTable rows waiting → IsKeptTable (set rows p y) (waiting + (1 - n))
 table-begun rows waiting p n x y here counts is k =
-    let most = one_if-most (is_waiting (state_seen x.state)) in
-    let one : one_if (is_waiting (state_seen y.state)) ≡ 1 = ap (λ (q : AsyncRow). one_if (is_waiting (state_seen q.state))) is in
+    let most = one_if-most (is_waiting (hook_state_seen x.state)) in
+    let one : one_if (is_waiting (hook_state_seen y.state)) ≡ 1 = ap (λ (q : AsyncRow). one_if (is_waiting (hook_state_seen q.state))) is in
     table-set rows waiting (waiting + (1 - n)) p x y here (ap (λ (q : AsyncRow). q.ticket.0) is) (omega (arith, most, one, counts)) k
 
 -- so many then wait at most
-pub begun-most : (rows : List AsyncRow) (waiting p n : ℕ) (x : AsyncRow) → slice_get rows p ≡ Some x → n ≡ one_if (is_waiting (state_seen x.state)) → IsKeptTable rows waiting
+pub begun-most : (rows : List AsyncRow) (waiting p n : ℕ) (x : AsyncRow) → slice_get rows p ≡ Some x → n ≡ one_if (is_waiting (hook_state_seen x.state)) → IsKeptTable rows waiting
     → waiting + (1 - n) ≤ length rows
 begun-most rows waiting p n x here counts k =
     let y : AsyncRow = record { ticket = x.ticket; state = kept.Waiting } in

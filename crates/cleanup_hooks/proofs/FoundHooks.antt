@@ -7,7 +7,7 @@ use Rattle.std.proofs.lemmas.Cmp.{nat_cmp_total}
 use Rattle.std.proofs.lemmas.Map.Entries.{btree_map_get_place, place_from_lookup}
 use Rattle.napi_types.specs.parts.Hooks.{Hook}
 use Rattle.cleanup_hooks.specs.declared.key.HookKey.{HookKey}
-use Rattle.cleanup_hooks.specs.KeptHooks.{key_cmp, hook_of, hooks_of, is_known, AreKeptHooks}
+use Rattle.cleanup_hooks.specs.KeptHooks.{key_cmp, hook_of, hooks_of, has_key, AreKeptHooks}
 use Rattle.cleanup_hooks.proofs.Keys.{same-hook, hook-same}
 
 -- the hook h passes a test, and stands at a place
@@ -39,11 +39,11 @@ none-passes test (f ∷ es) i e none is = by i is (test (hook_of f)) refl none (
     by (suc i) is false here told later = later i told is
 
 pub found : (by_ticket : BTreeMap ℕ HookKey) (by_key : BTreeMap HookKey ℕ) → AreKeptHooks by_ticket by_key → (key : HookKey) → get key_cmp by_key key
-    ≡ option_map (λ h. h.ticket) (find (is_known key) (hooks_of by_ticket.entries))
+    ≡ option_map (λ h. h.ticket) (find (has_key key) (hooks_of by_ticket.entries))
 found by_ticket by_key kept key = by (find test (hooks_of by_ticket.entries)) refl (get key_cmp by_key key) refl
   where
     test : Hook → Bool
-    test = is_known key
+    test = has_key key
 
     by : (o : Option Hook) → find test (hooks_of by_ticket.entries) ≡ o → (t : Option ℕ) → get key_cmp by_key key ≡ t → t ≡ option_map (λ (h : Hook). h.ticket) o
     by None is None got = refl

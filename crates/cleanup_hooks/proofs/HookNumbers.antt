@@ -13,14 +13,14 @@ use Rattle.napi_types.specs.environment.HookCalls.{unhooked}
 use Rattle.napi_types.proofs.plain.Found.{apart-below, apart-above, same-self}
 use Rattle.cleanup_hooks.specs.declared.key.HookKey.{HookKey}
 use Rattle.cleanup_hooks.specs.HookLists.{HookLists, FitsNumber, AreNumbered}
-use Rattle.cleanup_hooks.specs.KeptHooks.{is_known}
+use Rattle.cleanup_hooks.specs.KeptHooks.{has_key}
 
 -- ONLY STATES CHANGE
 -- a change that keeps number and ticket
-abbrev pub KeepsNames : (AsyncHook → AsyncHook) → Type 0
-KeepsNames f = (h : AsyncHook) → ((f h).number ≡ h.number) × ((f h).ticket ≡ h.ticket)
+abbrev pub KeepsNumberAndTicket : (AsyncHook → AsyncHook) → Type 0
+KeepsNumberAndTicket f = (h : AsyncHook) → ((f h).number ≡ h.number) × ((f h).ticket ≡ h.ticket)
 
-found-kept : (f : AsyncHook → AsyncHook) → KeepsNames f → (n : ℕ) (hooks : List AsyncHook) → option_map (λ h. h.ticket) (async_hook n (map f hooks)) ≡ option_map (λ h. h.ticket) (async_hook n hooks)
+found-kept : (f : AsyncHook → AsyncHook) → KeepsNumberAndTicket f → (n : ℕ) (hooks : List AsyncHook) → option_map (λ h. h.ticket) (async_hook n (map f hooks)) ≡ option_map (λ h. h.ticket) (async_hook n hooks)
 found-kept f keeps n [] = refl
 found-kept f keeps n (h ∷ hs) = ap (λ m. option_map (λ (x : AsyncHook). x.ticket) (cond (m == n) (Some (f h)) (async_hook n (map f hs)))) (keeps h).0 ∙ by (h.number == n) (found-kept f keeps n hs)
   where
@@ -29,20 +29,20 @@ found-kept f keeps n (h ∷ hs) = ap (λ m. option_map (λ (x : AsyncHook). x.ti
     by true later = ap Some (keeps h).1
     by false later = later
 
-any-kept : (f : AsyncHook → AsyncHook) → KeepsNames f → (t : ℕ) (hooks : List AsyncHook) → list_any (λ h. h.ticket == t) (map f hooks) ≡ list_any (λ h. h.ticket == t) hooks
+any-kept : (f : AsyncHook → AsyncHook) → KeepsNumberAndTicket f → (t : ℕ) (hooks : List AsyncHook) → list_any (λ h. h.ticket == t) (map f hooks) ≡ list_any (λ h. h.ticket == t) hooks
 any-kept f keeps t [] = refl
 any-kept f keeps t (h ∷ hs) =
     ap (λ m. (m == t) || list_any (λ (x : AsyncHook). x.ticket == t) (map f hs)) (keeps h).1 ∙ ap (λ b. (h.ticket == t) || b) (any-kept f keeps t hs)
 
-fits-kept : (f : AsyncHook → AsyncHook) → KeepsNames f → (hooks : List AsyncHook) (t : ℕ) (n : Option ℕ) → FitsNumber hooks t n → FitsNumber (map f hooks) t n
+fits-kept : (f : AsyncHook → AsyncHook) → KeepsNumberAndTicket f → (hooks : List AsyncHook) (t : ℕ) (n : Option ℕ) → FitsNumber hooks t n → FitsNumber (map f hooks) t n
 fits-kept f keeps hooks t (Some n) fits = found-kept f keeps n hooks ∙ fits
 fits-kept f keeps hooks t None fits = any-kept f keeps t hooks ∙ fits
 
-numbered-kept : (f : AsyncHook → AsyncHook) → KeepsNames f → (hooks : List AsyncHook) (list : List Hook) → AreNumbered hooks list → AreNumbered (map f hooks) list
+numbered-kept : (f : AsyncHook → AsyncHook) → KeepsNumberAndTicket f → (hooks : List AsyncHook) (list : List Hook) → AreNumbered hooks list → AreNumbered (map f hooks) list
 numbered-kept f keeps hooks list all =
     All-weaker (λ (h : Hook). FitsNumber hooks h.ticket h.number) (λ (h : Hook). FitsNumber (map f hooks) h.ticket h.number) (λ h fits. fits-kept f keeps hooks h.ticket h.number fits) list all
 
-names-cond : (test : AsyncHook → Bool) (s : HookState) → KeepsNames (λ h. cond (test h) (in_state s h) h)
+names-cond : (test : AsyncHook → Bool) (s : HookState) → KeepsNumberAndTicket (λ h. cond (test h) (in_state s h) h)
 names-cond test s h = by (test h)
   where
     by : (b : Bool) → ((cond b (in_state s h) h).number ≡ h.number) × ((cond b (in_state s h) h).ticket ≡ h.ticket)
@@ -119,18 +119,18 @@ numbered-async hooks list h n is fresh below all =
     each xs below all = λ i x inside. fits-more hooks _ _ _ (below i x inside) (all i x inside)
 
 -- so no hook of the list is known by a number that is new
-known-number : (key : HookKey) (h : Hook) (n : ℕ) → key.number ≡ Some n → is_known key h ≡ true → h.number ≡ Some n
+known-number : (key : HookKey) (h : Hook) (n : ℕ) → key.number ≡ Some n → has_key key h ≡ true → h.number ≡ Some n
 known-number key h n is known = grind arith
 
 pub new-unknown : (hooks : List AsyncHook) (list : List Hook) (key : HookKey) (n : ℕ) → key.number ≡ Some n → has_number n (0 ∷ map (λ x. x.number) hooks) ≡ false
-    → AreNumbered hooks list → find (is_known key) list ≡ None
+    → AreNumbered hooks list → find (has_key key) list ≡ None
 new-unknown hooks [] key n is fresh all = refl
-new-unknown hooks (h ∷ hs) key n is fresh all = by (is_known key h) refl (new-unknown hooks hs key n is fresh (All-tail (λ (x : Hook). FitsNumber hooks x.ticket x.number) h hs all))
+new-unknown hooks (h ∷ hs) key n is fresh all = by (has_key key h) refl (new-unknown hooks hs key n is fresh (All-tail (λ (x : Hook). FitsNumber hooks x.ticket x.number) h hs all))
   where
     P : Hook → Type 0
     P x = FitsNumber hooks x.ticket x.number
 
-    by : (b : Bool) → is_known key h ≡ b → find (is_known key) hs ≡ None → cond b (Some h) (find (is_known key) hs) ≡ None
+    by : (b : Bool) → has_key key h ≡ b → find (has_key key) hs ≡ None → cond b (Some h) (find (has_key key) hs) ≡ None
     by true known later =
         let fits : FitsNumber hooks h.ticket (Some n) = subst (FitsNumber hooks h.ticket) (known-number key h n is known) (All-head P h hs all) in
         let none : async_hook n hooks ≡ None = none-found n hooks (tail-fresh n (map (λ (x : AsyncHook). x.number) hooks) fresh) in

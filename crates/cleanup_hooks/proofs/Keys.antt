@@ -2,7 +2,7 @@
 use Rattle.std.proofs.Common.{◌≡◌, ℕ, true, arith, Decides}
 use Rattle.std.specs.Ordering.{nat_cmp, is_eq, eq_by_cmp}
 use Rattle.cleanup_hooks.specs.declared.key.HookKey.{HookKey}
-use Rattle.cleanup_hooks.specs.KeptHooks.{key_cmp, hook_of, is_known}
+use Rattle.cleanup_hooks.specs.KeptHooks.{key_cmp, hook_of, has_key}
 
 pub number-decides : (m n : ℕ) → Decides (eq_by_cmp nat_cmp m n) (m ≡ n)
 number-decides m n = (λ h. grind arith, λ h. grind arith)
@@ -17,8 +17,8 @@ pub key-decides : (k l : HookKey) → Decides (eq_by_cmp key_cmp k l) (k ≡ l)
 key-decides k l = (key-same k l, λ h. rw (← h) (same-key k))
 
 -- by the test of the list
-pub same-hook : (k : HookKey) (n : ℕ) → is_known k (hook_of (n, k)) ≡ true
+pub same-hook : (k : HookKey) (n : ℕ) → has_key k (hook_of (n, k)) ≡ true
 same-hook k n = grind arith
 
-pub hook-same : (k l : HookKey) (n : ℕ) → is_known k (hook_of (n, l)) ≡ true → k ≡ l
+pub hook-same : (k l : HookKey) (n : ℕ) → has_key k (hook_of (n, l)) ≡ true → k ≡ l
 hook-same k l n h = grind arith

@@ -7,11 +7,11 @@ use Rattle.cleanup_hooks.specs.declared.asynchronous.AsyncState.TheVariants as k
 use Rattle.cleanup_hooks.specs.declared.asynchronous.AsyncRow.{AsyncRow}
 
 -- how far a row has come
-abbrev pub state_seen : AsyncState → HookState
-state_seen kept.Set = Set
-state_seen kept.Waiting = Waiting
-state_seen kept.Abandoned = Abandoned
-state_seen kept.Removed = Removed
+abbrev pub hook_state_seen : AsyncState → HookState
+hook_state_seen kept.Set = Set
+hook_state_seen kept.Waiting = Waiting
+hook_state_seen kept.Abandoned = Abandoned
+hook_state_seen kept.Removed = Removed
 
 -- one that waits is abandoned
 abbrev pub abandoned_state : AsyncState → AsyncState
@@ -20,7 +20,7 @@ abandoned_state s = s
 
 -- a row of this number
 abbrev pub async_hook_of : ℕ → AsyncRow → AsyncHook
-async_hook_of n r = record { number = n; ticket = r.ticket.0; state = state_seen r.state }
+async_hook_of n r = record { number = n; ticket = r.ticket.0; state = hook_state_seen r.state }
 
 -- the rows, of the numbers from this one on
 abbrev pub async_hooks_from : ℕ → List AsyncRow → List AsyncHook

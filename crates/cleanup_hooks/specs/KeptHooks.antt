@@ -22,8 +22,8 @@ has_number_of None m = is_none m
 has_number_of (Some n) m = option_map_or (λ k. k == n) m false
 
 -- a hook is known so
-abbrev pub is_known : HookKey → Hook → Bool
-is_known k h = (h.addon == k.addon) && (h.entry == k.entry) && (h.argument == k.argument) && has_number_of k.number h.number
+abbrev pub has_key : HookKey → Hook → Bool
+has_key k h = (h.addon == k.addon) && (h.entry == k.entry) && (h.argument == k.argument) && has_number_of k.number h.number
 
 -- the hooks, in the order of their tickets
 abbrev pub hooks_of : List (ℕ × HookKey) → List Hook

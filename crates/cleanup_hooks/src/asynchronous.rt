@@ -6,7 +6,7 @@ ghost use Rattle.napi_types.specs.declared.status.Status.TheVariants as status;
 ghost use Rattle.napi_types.specs.plain.Lists.{has_number};
 ghost use Rattle.napi_types.specs.plain.Room.{one_if};
 ghost use Rattle.napi_types.specs.parts.AsyncHooks.{is_held, is_waiting, ticket_of_set, async_hook, has_async_hook, set_ticket, count_waiting, with_async_hook, with_removed, with_begun, with_abandoned};
-ghost use Rattle.cleanup_hooks.specs.AsyncRows.{state_seen, abandoned_state, async_hook_of, async_hooks_of};
+ghost use Rattle.cleanup_hooks.specs.AsyncRows.{hook_state_seen, abandoned_state, async_hook_of, async_hooks_of};
 
 use napi_types::{NoMemory, Status, Ticket};
 use std::alloc::Global;
@@ -24,7 +24,7 @@ pub(crate) enum AsyncState {
 impl AsyncState {
     /// Whether it was not removed.
     fn is_held(self) -> bool
-        ensures { result ≡ is_held (state_seen self) }
+        ensures { result ≡ is_held (hook_state_seen self) }
     {
         !matches!(self, AsyncState::Removed)
     }
@@ -41,7 +41,7 @@ impl AsyncState {
 
     /// One where it waits, else none.
     fn counted(self) -> u64
-        ensures { result ≡ one_if (is_waiting (state_seen self)) }
+        ensures { result ≡ one_if (is_waiting (hook_state_seen self)) }
     {
         match self {
             AsyncState::Waiting => 1,
@@ -60,7 +60,7 @@ pub(crate) struct AsyncRow {
 impl AsyncRow {
     /// The ticket of a hook that is set.
     fn set_ticket(self) -> Option<Ticket>
-        ensures { (n : ℕ) → option_map (λ t. t.0) result ≡ ticket_of_set (async_hook_of n self) (state_seen self.state) }
+        ensures { (n : ℕ) → option_map (λ t. t.0) result ≡ ticket_of_set (async_hook_of n self) (hook_state_seen self.state) }
     {
         match self.state {
             AsyncState::Set => Some(self.ticket),

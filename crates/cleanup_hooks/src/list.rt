@@ -2,7 +2,7 @@
 ghost use Rattle.std.specs.Prelude.{◌≡◌, ◌<◌, ◌++◌, ◌∷◌, ◌↔◌, [], None, Some, IfSome, OnOk, OnErr, option_map};
 ghost use Rattle.std.specs.List.{All, find};
 ghost use Rattle.napi_types.specs.parts.Hooks.{Hook, last_hook, without_hook};
-ghost use Rattle.cleanup_hooks.specs.KeptHooks.{hook_of, is_known};
+ghost use Rattle.cleanup_hooks.specs.KeptHooks.{hook_of, has_key};
 
 use crate::key::HookKey;
 use napi_types::{NoMemory, Ticket};
@@ -44,7 +44,7 @@ impl HookList {
 
     /// The ticket of the hook that is known so, `None` exactly where there is none.
     pub(crate) fn find(&self, key: HookKey) -> Option<Ticket>
-        ensures { option_map (λ t. t.0) result ≡ option_map (λ h. h.ticket) (find (is_known key) self.now) }
+        ensures { option_map (λ t. t.0) result ≡ option_map (λ h. h.ticket) (find (has_key key) self.now) }
     {
         let ticket = self.by_key.get(&key)?;
         Some(Ticket(*ticket))
@@ -52,7 +52,7 @@ impl HookList {
 
     /// Adds a hook, as the last. None is known so, and its ticket is above those of all. Where there is no memory nothing changes.
     pub(crate) fn add(&mut self, key: HookKey, ticket: Ticket) -> Result<(), NoMemory>
-        requires new { find (is_known key) self.old ≡ None }
+        requires new { find (has_key key) self.old ≡ None }
         requires rising { All (λ h. h.ticket < ticket.0) self.old }
         ensures ok { OnOk result (self.new ≡ self.old ++ hook_of (ticket.0, key) ∷ []) }
         ensures err { OnErr result (self.new ≡ self.old) }

@@ -5,7 +5,7 @@ use Rattle.std.proofs.lemmas.Bool.Decides.{nat_tests}
 use Rattle.std.proofs.lemmas.List.Folds.{list_any-append}
 use Rattle.napi_types.specs.plain.Lists.{has_number}
 use Rattle.napi_types.proofs.plain.Found.{same-self, same-tells, turned}
-use Rattle.deferred.specs.PromiseRows.{AreOnce}
+use Rattle.deferred.specs.PromiseRows.{NoneTwice}
 
 -- COMPARED
 pub same-from : (m n : ℕ) → nat_eq m n ≡ true → m ≡ n
@@ -47,7 +47,7 @@ has-without k n (m ∷ ns) = by (m == n) (m == k) (k == n) refl refl refl (has-w
     by false false c at here it more = ap (λ d. d || has_number k rest) here ∙ more
 
 -- a list in which none is twice keeps so
-pub once-without : (n : ℕ) (ns : List ℕ) → AreOnce ns → AreOnce (filter (λ m. not (m == n)) ns)
+pub once-without : (n : ℕ) (ns : List ℕ) → NoneTwice ns → NoneTwice (filter (λ m. not (m == n)) ns)
 once-without n [] once = tt
 once-without n (m ∷ ns) once = by (m == n) (once-without n ns once.1)
   where
@@ -55,12 +55,12 @@ once-without n (m ∷ ns) once = by (m == n) (once-without n ns once.1)
     absent true is = is
     absent false is = is ∙ once.0
 
-    by : (b : Bool) → AreOnce (filter (λ i. not (i == n)) ns) → AreOnce (cond (not b) (m ∷ filter (λ i. not (i == n)) ns) (filter (λ i. not (i == n)) ns))
+    by : (b : Bool) → NoneTwice (filter (λ i. not (i == n)) ns) → NoneTwice (cond (not b) (m ∷ filter (λ i. not (i == n)) ns) (filter (λ i. not (i == n)) ns))
     by true rest = rest
     by false rest = (absent (m == n) (has-without m n ns), rest)
 
 -- the first is taken out
-pub without-first : (n : ℕ) (ns : List ℕ) → AreOnce (n ∷ ns) → filter (λ m. not (m == n)) (n ∷ ns) ≡ ns
+pub without-first : (n : ℕ) (ns : List ℕ) → NoneTwice (n ∷ ns) → filter (λ m. not (m == n)) (n ∷ ns) ≡ ns
 without-first n ns once =
     ap (λ b. cond (not b) (n ∷ filter (λ m. not (m == n)) ns) (filter (λ m. not (m == n)) ns)) (same-self n) ∙ without-absent n ns once.0
 
@@ -72,14 +72,14 @@ has-behind k n ns = list_any-append (λ m. m == k) ns (n ∷ []) ∙ ap (λ b. h
     last true = refl
     last false = refl
 
-pub once-behind : (n : ℕ) (ns : List ℕ) → AreOnce ns → has_number n ns ≡ false → AreOnce (ns ++ n ∷ [])
+pub once-behind : (n : ℕ) (ns : List ℕ) → NoneTwice ns → has_number n ns ≡ false → NoneTwice (ns ++ n ∷ [])
 once-behind n [] once absent = (refl, tt)
 once-behind n (m ∷ ns) once absent =
     let apart = or_parts (m == n) (has_number n ns) absent in
     (has-behind m n ns ∙ ap (λ b. b || (n == m)) once.0 ∙ turned n m ∙ apart.0, once-behind n ns once.1 apart.1)
 
-pub first-out : (n : ℕ) (ns rest : List ℕ) → ns ≡ n ∷ rest → AreOnce ns → filter (λ m. not (m == n)) ns ≡ rest
-first-out n ns rest is once = ap (filter (λ m. not (m == n))) is ∙ without-first n rest (subst AreOnce is once)
+pub first-out : (n : ℕ) (ns rest : List ℕ) → ns ≡ n ∷ rest → NoneTwice ns → filter (λ m. not (m == n)) ns ≡ rest
+first-out n ns rest is once = ap (filter (λ m. not (m == n))) is ∙ without-first n rest (subst NoneTwice is once)
 
 -- the first of a list
 pub first-is : (ns : List ℕ) (x n : ℕ) → 0 < length ns → x ≡ get_or ns 0 x → (x == n) ≡ true → ns ≡ n ∷ drop 1 ns

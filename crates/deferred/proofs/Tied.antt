@@ -5,7 +5,7 @@ use Rattle.std.proofs.lemmas.Bool.Decides.{nat_tests}
 use Rattle.std.proofs.lemmas.Option.{same_Some}
 use Rattle.napi_types.specs.plain.Lists.{has_number}
 use Rattle.napi_types.proofs.plain.Found.{same-self, same-tells}
-use Rattle.deferred.specs.PromiseRows.{RowOf, deferred_in, is_deferred_of, reactions_in, AreOnce, AreTiedBy}
+use Rattle.deferred.specs.PromiseRows.{RowOf, deferred_in, is_deferred_of, reactions_in_row, NoneTwice, AreTiedBy}
 use Rattle.deferred.proofs.Numbers.{same-from, equal-tests, apart-from, has-without, once-without, has-behind, once-behind}
 
 -- the row names this deferred
@@ -43,16 +43,16 @@ module _ (R S : ℕ → Option RowOf) (D E T U : ℕ → Option ℕ) (made : ℕ
   pub record Forgets : Type 0 where
     pub rows : (w : ℕ) → S w ≡ cond (nat_eq v w) None (R w)
     pub deferreds : (n : ℕ) → E n ≡ cond (is_deferred_of n (R v)) None (D n)
-    pub reactions : (n : ℕ) → U n ≡ cond (has_number n (reactions_in (R v))) None (T n)
+    pub reactions : (n : ℕ) → U n ≡ cond (has_number n (reactions_in_row (R v))) None (T n)
 
   pub tied-forgotten : Forgets → AreTiedBy S E U made
   tied-forgotten f = record {
     promised = λ n u is. ap deferred_in (f.rows u) ∙ promised n u (is_deferred_of n (R v)) refl (nat_eq v u) refl (sym (f.deferreds n) ∙ is);
     deferring = λ n u is. f.deferreds n ∙ deferring n u (nat_eq v u) refl (sym (ap deferred_in (f.rows u)) ∙ is);
     numbered = λ n u is. numbered n u (is_deferred_of n (R v)) (sym (f.deferreds n) ∙ is);
-    listed = λ n u is. ap (λ o. has_number n (reactions_in o)) (f.rows u) ∙ listed n u (has_number n (reactions_in (R v))) refl (nat_eq v u) refl (sym (f.reactions n) ∙ is);
-    reacting = λ n u is. f.reactions n ∙ reacting n u (nat_eq v u) refl (sym (ap (λ o. has_number n (reactions_in o)) (f.rows u)) ∙ is);
-    once = λ u. subst (λ o. AreOnce (reactions_in o)) (sym (f.rows u)) (once u (nat_eq v u));
+    listed = λ n u is. ap (λ o. has_number n (reactions_in_row o)) (f.rows u) ∙ listed n u (has_number n (reactions_in_row (R v))) refl (nat_eq v u) refl (sym (f.reactions n) ∙ is);
+    reacting = λ n u is. f.reactions n ∙ reacting n u (nat_eq v u) refl (sym (ap (λ o. has_number n (reactions_in_row o)) (f.rows u)) ∙ is);
+    once = λ u. subst (λ o. NoneTwice (reactions_in_row o)) (sym (f.rows u)) (once u (nat_eq v u));
   }
     where
       promised : (n u : ℕ) (b : Bool) → is_deferred_of n (R v) ≡ b → (c : Bool) → nat_eq v u ≡ c → cond b None (D n) ≡ Some u → deferred_in (cond c None (R u)) ≡ Some n
@@ -72,23 +72,23 @@ module _ (R S : ℕ → Option RowOf) (D E T U : ℕ → Option ℕ) (made : ℕ
       numbered n u true there = let no : ⊥ = cc in absurd no
       numbered n u false there = tied.numbered n u there
 
-      listed : (n u : ℕ) (b : Bool) → has_number n (reactions_in (R v)) ≡ b → (c : Bool) → nat_eq v u ≡ c → cond b None (T n) ≡ Some u
-          → has_number n (reactions_in (cond c None (R u))) ≡ true
+      listed : (n u : ℕ) (b : Bool) → has_number n (reactions_in_row (R v)) ≡ b → (c : Bool) → nat_eq v u ≡ c → cond b None (T n) ≡ Some u
+          → has_number n (reactions_in_row (cond c None (R u))) ≡ true
       listed n u true at c same there = let no : ⊥ = cc in absurd no
       listed n u false at false apart there = tied.listed n u there
       listed n u false at true same there =
-          absurd (true≢false (sym (ap (λ w. has_number n (reactions_in (R w))) (same-from v u same) ∙ tied.listed n u there) ∙ at))
+          absurd (true≢false (sym (ap (λ w. has_number n (reactions_in_row (R w))) (same-from v u same) ∙ tied.listed n u there) ∙ at))
 
-      reacting : (n u : ℕ) (c : Bool) → nat_eq v u ≡ c → has_number n (reactions_in (cond c None (R u))) ≡ true → cond (has_number n (reactions_in (R v))) None (T n) ≡ Some u
+      reacting : (n u : ℕ) (c : Bool) → nat_eq v u ≡ c → has_number n (reactions_in_row (cond c None (R u))) ≡ true → cond (has_number n (reactions_in_row (R v))) None (T n) ≡ Some u
       reacting n u true same is = let no : ⊥ = cc in absurd no
       reacting n u false apart is =
           let there : T n ≡ Some u = tied.reacting n u is in
-          let none : has_number n (reactions_in (R v)) ≡ false =
+          let none : has_number n (reactions_in_row (R v)) ≡ false =
           tested _ (λ has. let one : u ≡ v = one-promise (T n) u v there (tied.reacting n v has) in
           true≢false (sym (same-self v) ∙ ap (λ k. k == v) (sym one) ∙ apart-from v u apart)) in
           ap (λ b. cond b None (T n)) none ∙ there
 
-      once : (u : ℕ) (c : Bool) → AreOnce (reactions_in (cond c None (R u)))
+      once : (u : ℕ) (c : Bool) → NoneTwice (reactions_in_row (cond c None (R u)))
       once u true = tt
       once u false = tied.once u
 
@@ -103,9 +103,9 @@ module _ (R S : ℕ → Option RowOf) (D E T U : ℕ → Option ℕ) (made : ℕ
     promised = λ n u is. ap deferred_in (m.rows u) ∙ promised n u (nat_eq (made + 1) n) refl (nat_eq v u) refl (sym (m.deferreds n) ∙ is);
     deferring = λ n u is. m.deferreds n ∙ deferring n u (nat_eq v u) refl (nat_eq (made + 1) n) refl (sym (ap deferred_in (m.rows u)) ∙ is);
     numbered = λ n u is. numbered n u (nat_eq (made + 1) n) refl (sym (m.deferreds n) ∙ is);
-    listed = λ n u is. ap (λ o. has_number n (reactions_in o)) (m.rows u) ∙ listed n u (nat_eq v u) refl is;
-    reacting = λ n u is. reacting n u (nat_eq v u) (sym (ap (λ o. has_number n (reactions_in o)) (m.rows u)) ∙ is);
-    once = λ u. subst (λ o. AreOnce (reactions_in o)) (sym (m.rows u)) (once u (nat_eq v u));
+    listed = λ n u is. ap (λ o. has_number n (reactions_in_row o)) (m.rows u) ∙ listed n u (nat_eq v u) refl is;
+    reacting = λ n u is. reacting n u (nat_eq v u) (sym (ap (λ o. has_number n (reactions_in_row o)) (m.rows u)) ∙ is);
+    once = λ u. subst (λ o. NoneTwice (reactions_in_row o)) (sym (m.rows u)) (once u (nat_eq v u));
   }
     where
       new : RowOf
@@ -139,16 +139,16 @@ module _ (R S : ℕ → Option RowOf) (D E T U : ℕ → Option ℕ) (made : ℕ
       numbered n u true at there = let one : made + 1 ≡ n = same-from (made + 1) n at in omega (arith, one)
       numbered n u false at there = let low : n ≤ made = tied.numbered n u there in omega (arith, low)
 
-      listed : (n u : ℕ) (c : Bool) → nat_eq v u ≡ c → T n ≡ Some u → has_number n (reactions_in (cond c (Some new) (R u))) ≡ true
+      listed : (n u : ℕ) (c : Bool) → nat_eq v u ≡ c → T n ≡ Some u → has_number n (reactions_in_row (cond c (Some new) (R u))) ≡ true
       listed n u false apart there = tied.listed n u there
       listed n u true same there =
-          absurd (true≢false (sym (tied.listed n u there) ∙ ap (λ w. has_number n (reactions_in (R w))) (sym (same-from v u same)) ∙ ap (λ o. has_number n (reactions_in o)) m.absent))
+          absurd (true≢false (sym (tied.listed n u there) ∙ ap (λ w. has_number n (reactions_in_row (R w))) (sym (same-from v u same)) ∙ ap (λ o. has_number n (reactions_in_row o)) m.absent))
 
-      reacting : (n u : ℕ) (c : Bool) → has_number n (reactions_in (cond c (Some new) (R u))) ≡ true → T n ≡ Some u
+      reacting : (n u : ℕ) (c : Bool) → has_number n (reactions_in_row (cond c (Some new) (R u))) ≡ true → T n ≡ Some u
       reacting n u true is = let no : ⊥ = cc in absurd no
       reacting n u false is = tied.reacting n u is
 
-      once : (u : ℕ) (c : Bool) → AreOnce (reactions_in (cond c (Some new) (R u)))
+      once : (u : ℕ) (c : Bool) → NoneTwice (reactions_in_row (cond c (Some new) (R u)))
       once u true = tt
       once u false = tied.once u
 
@@ -165,17 +165,17 @@ module _ (R S : ℕ → Option RowOf) (D E T U : ℕ → Option ℕ) (made : ℕ
       numbered = λ m u is. numbered m u (nat_eq n m) (sym (s.deferreds m) ∙ is);
       listed = λ m u is. ap (has_number m) (same u) ∙ tied.listed m u is;
       reacting = λ m u is. tied.reacting m u (sym (ap (has_number m) (same u)) ∙ is);
-      once = λ u. subst AreOnce (sym (same u)) (tied.once u);
+      once = λ u. subst NoneTwice (sym (same u)) (tied.once u);
     }
       where
         settled : RowOf
         settled = record r { state = state; deferred = None }
 
-        same : (u : ℕ) → reactions_in (S u) ≡ reactions_in (R u)
-        same u = ap reactions_in (s.rows u) ∙ by (nat_eq v u) refl
+        same : (u : ℕ) → reactions_in_row (S u) ≡ reactions_in_row (R u)
+        same u = ap reactions_in_row (s.rows u) ∙ by (nat_eq v u) refl
           where
-            by : (c : Bool) → nat_eq v u ≡ c → reactions_in (cond c (Some settled) (R u)) ≡ reactions_in (R u)
-            by true here = sym (ap reactions_in there) ∙ ap (λ w. reactions_in (R w)) (same-from v u here)
+            by : (c : Bool) → nat_eq v u ≡ c → reactions_in_row (cond c (Some settled) (R u)) ≡ reactions_in_row (R u)
+            by true here = sym (ap reactions_in_row there) ∙ ap (λ w. reactions_in_row (R w)) (same-from v u here)
             by false apart = refl
 
         promised : (m u : ℕ) (b : Bool) → nat_eq n m ≡ b → (c : Bool) → nat_eq v u ≡ c → cond b None (D m) ≡ Some u → deferred_in (cond c (Some settled) (R u)) ≡ Some m
@@ -212,14 +212,14 @@ module _ (R S : ℕ → Option RowOf) (D E T U : ℕ → Option ℕ) (made : ℕ
       numbered = tied.numbered;
       listed = λ m u is. has m u ∙ listed m u (nat_eq v u) refl (nat_eq n m) refl (sym (a.reactions m) ∙ is);
       reacting = λ m u is. a.reactions m ∙ reacting m u (nat_eq v u) refl (nat_eq n m) refl (sym (has m u) ∙ is);
-      once = λ u. subst (λ o. AreOnce (reactions_in o)) (sym (a.rows u)) (once u (nat_eq v u));
+      once = λ u. subst (λ o. NoneTwice (reactions_in_row o)) (sym (a.rows u)) (once u (nat_eq v u));
     }
       where
         more : RowOf
         more = record r { reactions = r.reactions ++ n ∷ [] }
 
-        was : (m : ℕ) → has_number m r.reactions ≡ has_number m (reactions_in (R v))
-        was m = ap (λ o. has_number m (reactions_in o)) (sym there)
+        was : (m : ℕ) → has_number m r.reactions ≡ has_number m (reactions_in_row (R v))
+        was m = ap (λ o. has_number m (reactions_in_row o)) (sym there)
 
         same : (u : ℕ) → deferred_in (S u) ≡ deferred_in (R u)
         same u = ap deferred_in (a.rows u) ∙ by (nat_eq v u) refl
@@ -228,13 +228,13 @@ module _ (R S : ℕ → Option RowOf) (D E T U : ℕ → Option ℕ) (made : ℕ
             by true here = sym (ap deferred_in there) ∙ ap (λ w. deferred_in (R w)) (same-from v u here)
             by false apart = refl
 
-        has : (m u : ℕ) → has_number m (reactions_in (S u)) ≡ cond (nat_eq v u) (has_number m r.reactions || nat_eq n m) (has_number m (reactions_in (R u)))
-        has m u = ap (λ o. has_number m (reactions_in o)) (a.rows u) ∙ by (nat_eq v u)
+        has : (m u : ℕ) → has_number m (reactions_in_row (S u)) ≡ cond (nat_eq v u) (has_number m r.reactions || nat_eq n m) (has_number m (reactions_in_row (R u)))
+        has m u = ap (λ o. has_number m (reactions_in_row o)) (a.rows u) ∙ by (nat_eq v u)
           where
             flipped : (n == m) ≡ nat_eq n m
             flipped = grind (arith, nat_tests)
 
-            by : (c : Bool) → has_number m (reactions_in (cond c (Some more) (R u))) ≡ cond c (has_number m r.reactions || nat_eq n m) (has_number m (reactions_in (R u)))
+            by : (c : Bool) → has_number m (reactions_in_row (cond c (Some more) (R u))) ≡ cond c (has_number m r.reactions || nat_eq n m) (has_number m (reactions_in_row (R u)))
             by true = has-behind m n r.reactions ∙ ap (λ b. has_number m r.reactions || b) flipped
             by false = refl
 
@@ -247,7 +247,7 @@ module _ (R S : ℕ → Option RowOf) (D E T U : ℕ → Option ℕ) (made : ℕ
         left false is = is
 
         listed : (m u : ℕ) (c : Bool) → nat_eq v u ≡ c → (b : Bool) → nat_eq n m ≡ b → cond b (Some v) (T m) ≡ Some u
-            → cond c (has_number m r.reactions || b) (has_number m (reactions_in (R u))) ≡ true
+            → cond c (has_number m r.reactions || b) (has_number m (reactions_in_row (R u))) ≡ true
         listed m u true here true at is = right (has_number m r.reactions)
         listed m u false apart true at is =
             let one : v ≡ u = same_Some v u is in
@@ -255,10 +255,10 @@ module _ (R S : ℕ → Option RowOf) (D E T U : ℕ → Option ℕ) (made : ℕ
             absurd (true≢false (sym self ∙ ap (λ k. nat_eq k u) (sym one) ∙ apart))
         listed m u false apart false at is = tied.listed m u is
         listed m u true here false at is =
-            ap (λ b. b || false) (was m ∙ ap (λ w. has_number m (reactions_in (R w))) (same-from v u here) ∙ tied.listed m u is)
+            ap (λ b. b || false) (was m ∙ ap (λ w. has_number m (reactions_in_row (R w))) (same-from v u here) ∙ tied.listed m u is)
 
         reacting : (m u : ℕ) (c : Bool) → nat_eq v u ≡ c → (b : Bool) → nat_eq n m ≡ b
-            → cond c (has_number m r.reactions || b) (has_number m (reactions_in (R u))) ≡ true → cond b (Some v) (T m) ≡ Some u
+            → cond c (has_number m r.reactions || b) (has_number m (reactions_in_row (R u))) ≡ true → cond b (Some v) (T m) ≡ Some u
         reacting m u true here true at is = ap (λ k. Some k) (same-from v u here)
         reacting m u true here false at is =
             tied.reacting m v (sym (was m) ∙ left (has_number m r.reactions) is) ∙ ap (λ k. Some k) (same-from v u here)
@@ -270,8 +270,8 @@ module _ (R S : ℕ → Option RowOf) (D E T U : ℕ → Option ℕ) (made : ℕ
         fresh : has_number n r.reactions ≡ false
         fresh = tested _ (λ is. let some : T n ≡ Some v = tied.reacting n v (sym (was n) ∙ is) in let no : ⊥ = cc in no)
 
-        once : (u : ℕ) (c : Bool) → AreOnce (reactions_in (cond c (Some more) (R u)))
-        once u true = once-behind n r.reactions (subst (λ o. AreOnce (reactions_in o)) there (tied.once v)) fresh
+        once : (u : ℕ) (c : Bool) → NoneTwice (reactions_in_row (cond c (Some more) (R u)))
+        once u true = once-behind n r.reactions (subst (λ o. NoneTwice (reactions_in_row o)) there (tied.once v)) fresh
         once u false = tied.once u
 
     -- a reaction less
@@ -286,14 +286,14 @@ module _ (R S : ℕ → Option RowOf) (D E T U : ℕ → Option ℕ) (made : ℕ
       numbered = tied.numbered;
       listed = λ m u is. has m u ∙ listed m u (nat_eq v u) refl (nat_eq n m) refl (sym (a.reactions m) ∙ is);
       reacting = λ m u is. a.reactions m ∙ reacting m u (nat_eq v u) refl (nat_eq n m) refl (sym (has m u) ∙ is);
-      once = λ u. subst (λ o. AreOnce (reactions_in o)) (sym (a.rows u)) (once u (nat_eq v u));
+      once = λ u. subst (λ o. NoneTwice (reactions_in_row o)) (sym (a.rows u)) (once u (nat_eq v u));
     }
       where
         less : RowOf
         less = record r { reactions = filter (λ m. not (m == n)) r.reactions }
 
-        was : (m : ℕ) → has_number m r.reactions ≡ has_number m (reactions_in (R v))
-        was m = ap (λ o. has_number m (reactions_in o)) (sym there)
+        was : (m : ℕ) → has_number m r.reactions ≡ has_number m (reactions_in_row (R v))
+        was m = ap (λ o. has_number m (reactions_in_row o)) (sym there)
 
         same : (u : ℕ) → deferred_in (S u) ≡ deferred_in (R u)
         same u = ap deferred_in (a.rows u) ∙ by (nat_eq v u) refl
@@ -302,21 +302,21 @@ module _ (R S : ℕ → Option RowOf) (D E T U : ℕ → Option ℕ) (made : ℕ
             by true here = sym (ap deferred_in there) ∙ ap (λ w. deferred_in (R w)) (same-from v u here)
             by false apart = refl
 
-        has : (m u : ℕ) → has_number m (reactions_in (S u)) ≡ cond (nat_eq v u) (cond (nat_eq n m) false (has_number m r.reactions)) (has_number m (reactions_in (R u)))
-        has m u = ap (λ o. has_number m (reactions_in o)) (a.rows u) ∙ by (nat_eq v u)
+        has : (m u : ℕ) → has_number m (reactions_in_row (S u)) ≡ cond (nat_eq v u) (cond (nat_eq n m) false (has_number m r.reactions)) (has_number m (reactions_in_row (R u)))
+        has m u = ap (λ o. has_number m (reactions_in_row o)) (a.rows u) ∙ by (nat_eq v u)
           where
-            by : (c : Bool) → has_number m (reactions_in (cond c (Some less) (R u))) ≡ cond c (cond (nat_eq n m) false (has_number m r.reactions)) (has_number m (reactions_in (R u)))
+            by : (c : Bool) → has_number m (reactions_in_row (cond c (Some less) (R u))) ≡ cond c (cond (nat_eq n m) false (has_number m r.reactions)) (has_number m (reactions_in_row (R u)))
             by true = has-without m n r.reactions ∙ ap (λ b. cond b false (has_number m r.reactions)) (equal-tests m n)
             by false = refl
 
         listed : (m u : ℕ) (c : Bool) → nat_eq v u ≡ c → (b : Bool) → nat_eq n m ≡ b → cond b None (T m) ≡ Some u
-            → cond c (cond b false (has_number m r.reactions)) (has_number m (reactions_in (R u))) ≡ true
+            → cond c (cond b false (has_number m r.reactions)) (has_number m (reactions_in_row (R u))) ≡ true
         listed m u c here true at is = let no : ⊥ = cc in absurd no
         listed m u false apart false at is = tied.listed m u is
-        listed m u true here false at is = was m ∙ ap (λ w. has_number m (reactions_in (R w))) (same-from v u here) ∙ tied.listed m u is
+        listed m u true here false at is = was m ∙ ap (λ w. has_number m (reactions_in_row (R w))) (same-from v u here) ∙ tied.listed m u is
 
         reacting : (m u : ℕ) (c : Bool) → nat_eq v u ≡ c → (b : Bool) → nat_eq n m ≡ b
-            → cond c (cond b false (has_number m r.reactions)) (has_number m (reactions_in (R u))) ≡ true → cond b None (T m) ≡ Some u
+            → cond c (cond b false (has_number m r.reactions)) (has_number m (reactions_in_row (R u))) ≡ true → cond b None (T m) ≡ Some u
         reacting m u true here true at is = let no : ⊥ = cc in absurd no
         reacting m u true here false at is = tied.reacting m v (sym (was m) ∙ is) ∙ ap (λ k. Some k) (same-from v u here)
         reacting m u false apart true at is =
@@ -325,6 +325,6 @@ module _ (R S : ℕ → Option RowOf) (D E T U : ℕ → Option ℕ) (made : ℕ
             absurd (true≢false (sym self ∙ ap (λ k. nat_eq k u) (sym one) ∙ apart))
         reacting m u false apart false at is = tied.reacting m u is
 
-        once : (u : ℕ) (c : Bool) → AreOnce (reactions_in (cond c (Some less) (R u)))
-        once u true = once-without n r.reactions (subst (λ o. AreOnce (reactions_in o)) there (tied.once v))
+        once : (u : ℕ) (c : Bool) → NoneTwice (reactions_in_row (cond c (Some less) (R u)))
+        once u true = once-without n r.reactions (subst (λ o. NoneTwice (reactions_in_row o)) there (tied.once v))
         once u false = tied.once u

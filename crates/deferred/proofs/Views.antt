@@ -14,7 +14,7 @@ use Rattle.napi_types.proofs.plain.Issued.{length-up_to, up_to-more, fresh_numbe
 use Rattle.napi_types.proofs.plain.Lists.{any-map}
 use Rattle.deferred.specs.declared.row.PromiseRow.{PromiseRow}
 use Rattle.deferred.specs.KeptPromises.{KeptPromises, AreMaps}
-use Rattle.deferred.specs.PromiseRows.{RowOf, row_of, row_at, settled_row, added_row, taken_row as taken_of, deferred_in, is_deferred_of, reactions_in, promise_in, deferred_as, promises_of, AreTied, is_root_row, root_values}
+use Rattle.deferred.specs.PromiseRows.{RowOf, seen_row, row_at, settled_row, added_row, taken_row as taken_of, deferred_in, is_deferred_of, reactions_in_row, promise_in, deferred_as, promises_of, AreTied, is_root_row, root_values}
 use Rattle.deferred.proofs.Numbers.{same-from, equal-tests, without-absent}
 use Rattle.deferred.proofs.Tied.{Forgets, Settles, deferred-tells, tied-forgotten, tied-made, tied-settled, tied-added, tied-taken}
 
@@ -50,7 +50,7 @@ mapped-twice f g (Some x) = refl
 pub found-promise : (rows : List (ℕ × PromiseRow)) (ds : List (ℕ × ℕ)) (made v : ℕ) → promise_at (promises_of rows ds made) v ≡ option_map (promise_in v) (row_at v rows)
 unfolding promises_of
 found-promise rows ds made v =
-    found-in-map (λ p. p.value) (λ n row. promise_in n (row_of row)) (λ n row. refl) v rows ∙ mapped-twice row_of (promise_in v) (lookup (nat_eq v) rows)
+    found-in-map (λ p. p.value) (λ n row. promise_in n (seen_row row)) (λ n row. refl) v rows ∙ mapped-twice seen_row (promise_in v) (lookup (nat_eq v) rows)
 
 pub found-deferred : (rows : List (ℕ × PromiseRow)) (ds : List (ℕ × ℕ)) (made n : ℕ)
     → found (λ d. d.number) n (promises_of rows ds made).deferreds ≡ option_map (deferred_as n) (lookup (nat_eq n) ds)
@@ -59,7 +59,7 @@ found-deferred rows ds made n = found-in-map (λ d. d.number) deferred_as (λ n 
 
 pub rising-promises : (rows : List (ℕ × PromiseRow)) (ds : List (ℕ × ℕ)) (made : ℕ) → IsRising (λ p. p.value) (promises_of rows ds made).promises
 unfolding promises_of
-rising-promises rows ds made = rising-as_map (λ p. p.value) (map (λ e. promise_in e.0 (row_of e.1)) rows)
+rising-promises rows ds made = rising-as_map (λ p. p.value) (map (λ e. promise_in e.0 (seen_row e.1)) rows)
 
 pub rising-deferreds : (rows : List (ℕ × PromiseRow)) (ds : List (ℕ × ℕ)) (made : ℕ) → IsRising (λ d. d.number) (promises_of rows ds made).deferreds
 unfolding promises_of
@@ -317,7 +317,7 @@ module _ (rows rows' : List (ℕ × PromiseRow)) (ds : List (ℕ × ℕ)) (made 
       by w (Some r) = refl
 
 -- a promise that does not have it is as it was
-pub taken-absent : (n : ℕ) (o : Option RowOf) → has_number n (reactions_in o) ≡ false → option_map (λ (r : RowOf). record r { reactions = filter (λ m. not (m == n)) r.reactions }) o ≡ o
+pub taken-absent : (n : ℕ) (o : Option RowOf) → has_number n (reactions_in_row o) ≡ false → option_map (λ (r : RowOf). record r { reactions = filter (λ m. not (m == n)) r.reactions }) o ≡ o
 taken-absent n None absent = refl
 taken-absent n (Some r) absent = ap (λ ns. Some (record r { reactions = ns })) (without-absent n r.reactions absent)
 
@@ -329,10 +329,10 @@ read-state rows ds made v = ap (option_map (λ (p : Promise). p.state)) (found-p
     by None = refl
     by (Some r) = refl
 
-pub read-reactions : (rows : List (ℕ × PromiseRow)) (ds : List (ℕ × ℕ)) (made v : ℕ) → reactions_of (promises_of rows ds made) v ≡ reactions_in (row_at v rows)
+pub read-reactions : (rows : List (ℕ × PromiseRow)) (ds : List (ℕ × ℕ)) (made v : ℕ) → reactions_of (promises_of rows ds made) v ≡ reactions_in_row (row_at v rows)
 read-reactions rows ds made v = ap (λ o. unwrap_or (option_map (λ (p : Promise). p.reactions) o) []) (found-promise rows ds made v) ∙ by (row_at v rows)
   where
-    by : (o : Option RowOf) → unwrap_or (option_map (λ (p : Promise). p.reactions) (option_map (promise_in v) o)) [] ≡ reactions_in o
+    by : (o : Option RowOf) → unwrap_or (option_map (λ (p : Promise). p.reactions) (option_map (promise_in v) o)) [] ≡ reactions_in_row o
     by None = refl
     by (Some r) = refl
 
@@ -401,7 +401,7 @@ module _ (rows : List (ℕ × PromiseRow)) (ds ts : List (ℕ × ℕ)) (made : �
                   let none : Some n ≡ None = sym (tied.promised n u some) ∙ ap (λ w. deferred_in (row_at w rows)) (same-tells u v same) ∙ is in
                   let no : ⊥ = cc in absurd no
 
-  reacted : has_number v (map (λ r. r.value) (filter (λ (r : Promise). not (is_empty r.reactions)) (promises_of rows ds made).promises)) ≡ not (is_empty (reactions_in (row_at v rows)))
+  reacted : has_number v (map (λ r. r.value) (filter (λ (r : Promise). not (is_empty r.reactions)) (promises_of rows ds made).promises)) ≡ not (is_empty (reactions_in_row (row_at v rows)))
   reacted =
       any-map (λ m. m == v) (λ (r : Promise). r.value) (filter (λ (r : Promise). not (is_empty r.reactions)) (promises_of rows ds made).promises)
       ∙ has-found (λ r. r.value) v (filter (λ (r : Promise). not (is_empty r.reactions)) (promises_of rows ds made).promises)
@@ -413,11 +413,11 @@ module _ (rows : List (ℕ × PromiseRow)) (ds ts : List (ℕ × ℕ)) (made : �
       there true p = refl
       there false p = refl
 
-      by : (o : Option RowOf) → is_some (option_and_then (λ (r : Promise). cond (not (is_empty r.reactions)) (Some r) None) (option_map (promise_in v) o)) ≡ not (is_empty (reactions_in o))
+      by : (o : Option RowOf) → is_some (option_and_then (λ (r : Promise). cond (not (is_empty r.reactions)) (Some r) None) (option_map (promise_in v) o)) ≡ not (is_empty (reactions_in_row o))
       by None = refl
       by (Some r) = there (not (is_empty r.reactions)) (promise_in v r)
 
-  pub read-root : has_number v (promise_roots (promises_of rows ds made)) ≡ (is_some (deferred_in (row_at v rows)) || not (is_empty (reactions_in (row_at v rows))))
+  pub read-root : has_number v (promise_roots (promises_of rows ds made)) ≡ (is_some (deferred_in (row_at v rows)) || not (is_empty (reactions_in_row (row_at v rows))))
   read-root =
       list_any-append (λ m. m == v) (map (λ d. d.promise) (promises_of rows ds made).deferreds)
       (map (λ r. r.value) (filter (λ (r : Promise). not (is_empty r.reactions)) (promises_of rows ds made).promises))
@@ -445,19 +445,19 @@ equal-laws = record { refl = self-same; symm = equal-turned; congr = equal-congr
 
 -- the values that are roots, where none stands twice
 root-listed : (n : ℕ) (rows : List (ℕ × PromiseRow)) → IsDistinct nat_eq (keys_of rows)
-    → has_number n (root_values rows) ≡ (is_some (deferred_in (row_at n rows)) || not (is_empty (reactions_in (row_at n rows))))
+    → has_number n (root_values rows) ≡ (is_some (deferred_in (row_at n rows)) || not (is_empty (reactions_in_row (row_at n rows))))
 root-listed n rows once =
-    has-key n (filter (λ e. is_root_row (row_of e.1)) rows)
-    ∙ ap is_some (lookup-filter-values equal-laws (λ row. is_root_row (row_of row)) n rows once) ∙ by (lookup (nat_eq n) rows)
+    has-key n (filter (λ e. is_root_row (seen_row e.1)) rows)
+    ∙ ap is_some (lookup-filter-values equal-laws (λ row. is_root_row (seen_row row)) n rows once) ∙ by (lookup (nat_eq n) rows)
   where
     there : (b : Bool) (row : PromiseRow) → is_some (cond b (Some row) None) ≡ b
     there true row = refl
     there false row = refl
 
-    by : (o : Option PromiseRow) → is_some (option_filter (λ row. is_root_row (row_of row)) o)
-        ≡ (is_some (deferred_in (option_map row_of o)) || not (is_empty (reactions_in (option_map row_of o))))
+    by : (o : Option PromiseRow) → is_some (option_filter (λ row. is_root_row (seen_row row)) o)
+        ≡ (is_some (deferred_in (option_map seen_row o)) || not (is_empty (reactions_in_row (option_map seen_row o))))
     by None = refl
-    by (Some row) = there (is_root_row (row_of row)) row
+    by (Some row) = there (is_root_row (seen_row row)) row
 
 -- added to others
 pub roots-pushed : (rows : List (ℕ × PromiseRow)) (ds ts : List (ℕ × ℕ)) (made : ℕ) (p : Promises) → promises_of rows ds made ≡ p → AreTied rows ds ts made
@@ -471,10 +471,10 @@ roots-pushed rows ds ts made p view tied old new (Ok x) pushed once = λ n.
 
 -- OF A TABLE'S ANSWER
 module _ (rows : List (ℕ × PromiseRow)) (ds ts : List (ℕ × ℕ)) (made : ℕ) (p : Promises) (view : promises_of rows ds made ≡ p) where
-  pub state-of : (v : ℕ) (o : Option PromiseRow) → o ≡ lookup (nat_eq v) rows → promise_state p v ≡ option_map (λ r. r.state) (option_map row_of o)
-  state-of v o is = ap (λ q. promise_state q v) (sym view) ∙ read-state rows ds made v ∙ ap (λ k. option_map (λ (r : RowOf). r.state) (option_map row_of k)) (sym is)
+  pub state-of : (v : ℕ) (o : Option PromiseRow) → o ≡ lookup (nat_eq v) rows → promise_state p v ≡ option_map (λ r. r.state) (option_map seen_row o)
+  state-of v o is = ap (λ q. promise_state q v) (sym view) ∙ read-state rows ds made v ∙ ap (λ k. option_map (λ (r : RowOf). r.state) (option_map seen_row k)) (sym is)
 
-  pub reactions-read : (v : ℕ) → reactions_of p v ≡ reactions_in (row_at v rows)
+  pub reactions-read : (v : ℕ) → reactions_of p v ≡ reactions_in_row (row_at v rows)
   reactions-read v = ap (λ q. reactions_of q v) (sym view) ∙ read-reactions rows ds made v
 
   pub deferred-of : (n : ℕ) (o : Option ℕ) → o ≡ lookup (nat_eq n) ds → deferred_promise p n ≡ o
@@ -482,14 +482,14 @@ module _ (rows : List (ℕ × PromiseRow)) (ds ts : List (ℕ × ℕ)) (made : �
 
   pub promise-of : AreTied rows ds ts made → (n : ℕ) (o : Option ℕ) → o ≡ lookup (nat_eq n) ts → (v : ℕ) → (o ≡ Some v → is_reaction_of p v n ≡ true) × (is_reaction_of p v n ≡ true → o ≡ Some v)
   promise-of tied n o is v =
-      let told : is_reaction_of p v n ≡ has_number n (reactions_in (row_at v rows)) = ap (has_number n) (ap (λ q. reactions_of q v) (sym view) ∙ read-reactions rows ds made v) in
+      let told : is_reaction_of p v n ≡ has_number n (reactions_in_row (row_at v rows)) = ap (has_number n) (ap (λ q. reactions_of q v) (sym view) ∙ read-reactions rows ds made v) in
       ((λ there. told ∙ tied.listed n v (sym is ∙ there)), (λ has. is ∙ tied.reacting n v (sym told ∙ has)))
 
   pub root-of : AreTied rows ds ts made → (v : ℕ) (o : Option PromiseRow) → o ≡ lookup (nat_eq v) rows
-      → has_number v (promise_roots p) ≡ (is_some (deferred_in (option_map row_of o)) || not (is_empty (reactions_in (option_map row_of o))))
+      → has_number v (promise_roots p) ≡ (is_some (deferred_in (option_map seen_row o)) || not (is_empty (reactions_in_row (option_map seen_row o))))
   root-of tied v o is =
       ap (λ q. has_number v (promise_roots q)) (sym view) ∙ read-root rows ds ts made tied v
-      ∙ ap (λ k. is_some (deferred_in (option_map row_of k)) || not (is_empty (reactions_in (option_map row_of k)))) (sym is)
+      ∙ ap (λ k. is_some (deferred_in (option_map seen_row k)) || not (is_empty (reactions_in_row (option_map seen_row k)))) (sym is)
 
 pub empty-length : (ns : List ℕ) (n : ℕ) → n ≡ length ns → (n == 0) ≡ is_empty ns
 empty-length [] n is = ap (λ k. k == 0) is
@@ -514,16 +514,16 @@ pub deferred-there : (n : ℕ) (o : Option RowOf) → deferred_in o ≡ Some n �
 deferred-there n None is = let never : ⊥ = cc in absurd never
 deferred-there n (Some r) is = refl
 
-pub reactions-there : (n : ℕ) (o : Option RowOf) → has_number n (reactions_in o) ≡ true → IsSome o
+pub reactions-there : (n : ℕ) (o : Option RowOf) → has_number n (reactions_in_row o) ≡ true → IsSome o
 reactions-there n None is = let never : ⊥ = cc in absurd never
 reactions-there n (Some r) is = refl
 
 module _ (rows : List (ℕ × PromiseRow)) (ds ts : List (ℕ × ℕ)) (made : ℕ) (tied : AreTied rows ds ts made) where
   -- none is a reaction of this ticket
   pub ended-none : (n : ℕ) → lookup (nat_eq n) ts ≡ None → promises_of rows ds made ≡ without_reaction n (promises_of rows ds made)
-  ended-none n none = view-ended rows rows ds made n (λ w. sym (taken-absent n (row_at w rows) (absent w (has_number n (reactions_in (row_at w rows))) refl)))
+  ended-none n none = view-ended rows rows ds made n (λ w. sym (taken-absent n (row_at w rows) (absent w (has_number n (reactions_in_row (row_at w rows))) refl)))
     where
-      absent : (w : ℕ) (b : Bool) → has_number n (reactions_in (row_at w rows)) ≡ b → has_number n (reactions_in (row_at w rows)) ≡ false
+      absent : (w : ℕ) (b : Bool) → has_number n (reactions_in_row (row_at w rows)) ≡ b → has_number n (reactions_in_row (row_at w rows)) ≡ false
       absent w true is = let some = tied.reacting n w is in let never : ⊥ = let it : Some w ≡ None = sym some ∙ none in cc in absurd never
       absent w false is = is
 
@@ -533,7 +533,7 @@ module _ (rows : List (ℕ × PromiseRow)) (ds ts : List (ℕ × ℕ)) (made : �
       → promises_of rows' ds made ≡ without_reaction n (promises_of rows ds made)
   ended-one rows' v n some puts = view-ended rows rows' ds made n (λ w. puts w ∙ by w (nat_eq v w) refl)
     where
-      absent : (w : ℕ) → nat_eq v w ≡ false → (b : Bool) → has_number n (reactions_in (row_at w rows)) ≡ b → has_number n (reactions_in (row_at w rows)) ≡ false
+      absent : (w : ℕ) → nat_eq v w ≡ false → (b : Bool) → has_number n (reactions_in_row (row_at w rows)) ≡ b → has_number n (reactions_in_row (row_at w rows)) ≡ false
       absent w apart true is =
           let both : Some v ≡ Some w = sym some ∙ tied.reacting n w is in
           let one : v ≡ w = ap (λ (o : Option ℕ). unwrap_or o v) both in
@@ -542,7 +542,7 @@ module _ (rows : List (ℕ × PromiseRow)) (ds ts : List (ℕ × ℕ)) (made : �
 
       by : (w : ℕ) (b : Bool) → nat_eq v w ≡ b → cond b (option_map (taken_of n) (row_at v rows)) (row_at w rows) ≡ option_map (taken_of n) (row_at w rows)
       by w true same = ap (λ u. option_map (taken_of n) (row_at u rows)) (same-from v w same)
-      by w false apart = sym (taken-absent n (row_at w rows) (absent w apart (has_number n (reactions_in (row_at w rows))) refl))
+      by w false apart = sym (taken-absent n (row_at w rows) (absent w apart (has_number n (reactions_in_row (row_at w rows))) refl))
 
   pub ended-tied : (rows' : List (ℕ × PromiseRow)) (ts' : List (ℕ × ℕ)) (v n : ℕ) → lookup (nat_eq n) ts ≡ Some v
       → ((w : ℕ) → row_at w rows' ≡ cond (nat_eq v w) (option_map (taken_of n) (row_at v rows)) (row_at w rows))
@@ -550,7 +550,7 @@ module _ (rows : List (ℕ × PromiseRow)) (ds ts : List (ℕ × ℕ)) (made : �
   ended-tied rows' ts' v n some puts left = by (row_at v rows) refl
     where
       by : (o : Option RowOf) → row_at v rows ≡ o → AreTied rows' ds ts' made
-      by None is = let never : ⊥ = let has = sym (tied.listed n v some) ∙ ap (λ o. has_number n (reactions_in o)) is in cc in absurd never
+      by None is = let never : ⊥ = let has = sym (tied.listed n v some) ∙ ap (λ o. has_number n (reactions_in_row o)) is in cc in absurd never
       by (Some r) is =
           tied-taken (λ w. row_at w rows) (λ w. row_at w rows') (λ m. lookup (nat_eq m) ds) (λ m. lookup (nat_eq m) ds) (λ m. lookup (nat_eq m) ts) (λ m. lookup (nat_eq m) ts') made tied v r is n some
           (record { rows = λ w. puts w ∙ ap (λ o. cond (nat_eq v w) (option_map (taken_of n) o) (row_at w rows)) is; reactions = left })
@@ -636,7 +636,7 @@ module _ (rows : List (ℕ × PromiseRow)) (ds ts : List (ℕ × ℕ)) (made : �
     (same : (w : ℕ) → row_at w ample ≡ row_at w rows) (alike : (n : ℕ) → lookup (nat_eq n) roomy ≡ lookup (nat_eq n) ds)
     (gone : (w : ℕ) → row_at w rows' ≡ cond (nat_eq v w) None (row_at w ample))
     (left : (n : ℕ) → lookup (nat_eq n) ds' ≡ cond (is_deferred_of n (row_at v ample)) None (lookup (nat_eq n) roomy))
-    (lost : (n : ℕ) → lookup (nat_eq n) ts' ≡ cond (has_number n (reactions_in (row_at v ample))) None (lookup (nat_eq n) ts))
+    (lost : (n : ℕ) → lookup (nat_eq n) ts' ≡ cond (has_number n (reactions_in_row (row_at v ample))) None (lookup (nat_eq n) ts))
     (qs : List (ℕ × PromiseRow)) (es : List (ℕ × ℕ)) (ns : List ℕ) (empty : ns ≡ [])
     (row : (w : ℕ) → row_at w qs ≡ cond (nat_eq v w) (Some (record { state = 0; deferred = Some (made + 1); reactions = ns })) (row_at w rows'))
     (deferred : (n : ℕ) → lookup (nat_eq n) es ≡ cond (nat_eq (made + 1) n) (Some v) (lookup (nat_eq n) ds')) where
@@ -644,7 +644,7 @@ module _ (rows : List (ℕ × PromiseRow)) (ds ts : List (ℕ × ℕ)) (made : �
   forgets = record {
     rows = λ w. gone w ∙ ap (cond (nat_eq v w) None) (same w);
     deferreds = λ n. left n ∙ ap (λ o. cond (is_deferred_of n o) None (lookup (nat_eq n) roomy)) (same v) ∙ ap (cond (is_deferred_of n (row_at v rows)) None) (alike n);
-    reactions = λ n. lost n ∙ ap (λ o. cond (has_number n (reactions_in o)) None (lookup (nat_eq n) ts)) (same v);
+    reactions = λ n. lost n ∙ ap (λ o. cond (has_number n (reactions_in_row o)) None (lookup (nat_eq n) ts)) (same v);
   }
 
   puts-row : (w : ℕ) → row_at w qs ≡ cond (nat_eq v w) (Some (record { state = 0; deferred = Some (made + 1); reactions = [] })) (row_at w rows')

@@ -5,7 +5,7 @@ ghost use Rattle.std.specs.Prelude.{nat_eq, ℕ, None, cond};
 ghost use Rattle.napi_types.specs.plain.Lists.{has_number};
 ghost use Rattle.napi_types.specs.parts.Book.{changed_at};
 ghost use Rattle.napi_types.specs.parts.Promises.{reactions_settled, made_settled};
-ghost use Rattle.deferred.specs.PromiseRows.{AreOnce, row_of, is_root_row};
+ghost use Rattle.deferred.specs.PromiseRows.{NoneTwice, seen_row, is_root_row};
 
 use finalizer_queue::Book;
 use napi_types::Ticket;
@@ -23,15 +23,15 @@ pub(crate) struct PromiseRow {
 
 /// Whether the promise is a root: its deferred is not settled, or it has a reaction that has not ended.
 pub(crate) fn is_root(row: &PromiseRow) -> bool
-    ensures { result ≡ is_root_row (row_of row.now) }
+    ensures { result ≡ is_root_row (seen_row row.now) }
 {
     row.deferred.is_some() || !row.reactions.is_empty()
 }
 
 /// Takes a reaction out. It is the first but where reactions end in another order than they were added in.
 pub(crate) fn take_out(row: &mut PromiseRow, ticket: u64)
-    requires { AreOnce row.old.reactions.items }
-    ensures { row_of row.new ≡ record (row_of row.old) { reactions = filter (λ n. not (n == ticket)) row.old.reactions.items } }
+    requires { NoneTwice row.old.reactions.items }
+    ensures { seen_row row.new ≡ record (seen_row row.old) { reactions = filter (λ n. not (n == ticket)) row.old.reactions.items } }
 {
     if is_first(&row.reactions, ticket) {
         row.reactions.pop_front();

@@ -5,7 +5,7 @@ ghost use Rattle.std.specs.List.{IsDistinct};
 ghost use Rattle.std.specs.Map.{lookup, keys_of};
 ghost use Rattle.napi_types.specs.plain.Lists.{has_number};
 ghost use Rattle.napi_types.specs.parts.Promises.{reactions_settled};
-ghost use Rattle.deferred.specs.PromiseRows.{row_at, row_of, is_deferred_of, reactions_in, AreOnce, settled_row, added_row, taken_row, root_values, is_root_row};
+ghost use Rattle.deferred.specs.PromiseRows.{row_at, seen_row, is_deferred_of, reactions_in_row, NoneTwice, settled_row, added_row, taken_row, root_values, is_root_row};
 
 use crate::row::{self, PromiseRow};
 use finalizer_queue::Book;
@@ -23,7 +23,7 @@ pub(crate) fn take_off(
     ensures deferreds { (n : ℕ) → lookup (nat_eq n) deferreds.new.entries
         ≡ cond (is_deferred_of n (row_at value promises.old.entries)) None (lookup (nat_eq n) deferreds.old.entries) }
     ensures reactions { (n : ℕ) → lookup (nat_eq n) reactions.new.entries
-        ≡ cond (has_number n (reactions_in (row_at value promises.old.entries))) None (lookup (nat_eq n) reactions.old.entries) }
+        ≡ cond (has_number n (reactions_in_row (row_at value promises.old.entries))) None (lookup (nat_eq n) reactions.old.entries) }
     ensures promises_spare { spare promises.old ≤ spare promises.new }
     ensures deferreds_spare { spare deferreds.old ≤ spare deferreds.new }
 {
@@ -39,7 +39,7 @@ pub(crate) fn take_off(
 /// Puts a promise where there is none of its value. There is room for it.
 pub(crate) fn put(promises: &mut HashMap<u64, PromiseRow>, value: u64, row: PromiseRow)
     requires { 0 < spare promises.old }
-    ensures { (w : ℕ) → row_at w promises.new.entries ≡ cond (nat_eq value w) (Some (row_of row)) (row_at w promises.old.entries) }
+    ensures { (w : ℕ) → row_at w promises.new.entries ≡ cond (nat_eq value w) (Some (seen_row row)) (row_at w promises.old.entries) }
 {
     let Ok(_) = promises.insert(value, row) else {
         unreachable!()
@@ -67,7 +67,7 @@ pub(crate) fn settle(
     requires { IsSome (row_at value promises.old.entries) }
     ensures rows { (w : ℕ) → row_at w promises.new.entries
         ≡ cond (nat_eq value w) (option_map (settled_row state) (row_at value promises.old.entries)) (row_at w promises.old.entries) }
-    ensures settled { book.new.book ≡ reactions_settled state (reactions_in (row_at value promises.old.entries)) book.old.book }
+    ensures settled { book.new.book ≡ reactions_settled state (reactions_in_row (row_at value promises.old.entries)) book.old.book }
     ensures spare { book.old.spare ≤ book.new.spare }
 {
     let Some(row) = promises.get_mut(&value) else {
@@ -99,7 +99,7 @@ pub(crate) fn add(
 /// Takes a reaction out of a promise.
 pub(crate) fn take_out(promises: &mut HashMap<u64, PromiseRow>, value: u64, ticket: u64)
     requires there { IsSome (row_at value promises.old.entries) }
-    requires once { AreOnce (reactions_in (row_at value promises.old.entries)) }
+    requires once { NoneTwice (reactions_in_row (row_at value promises.old.entries)) }
     ensures { (w : ℕ) → row_at w promises.new.entries
         ≡ cond (nat_eq value w) (option_map (taken_row ticket) (row_at value promises.old.entries)) (row_at w promises.old.entries) }
 {
@@ -134,7 +134,7 @@ pub(crate) fn push_roots(
 
 /// Adds the value of a promise, where it is a root.
 fn push_if(roots: &mut Vec<ValueId>, value: ValueId, row: &PromiseRow) -> Result<(), NoMemory>
-    ensures { OnOk result (map (λ v. v.0) roots.new.items ≡ map (λ v. v.0) roots.old.items ++ cond (is_root_row (row_of row.now)) (value.0 ∷ []) []) }
+    ensures { OnOk result (map (λ v. v.0) roots.new.items ≡ map (λ v. v.0) roots.old.items ++ cond (is_root_row (seen_row row.now)) (value.0 ∷ []) []) }
 {
     if row::is_root(row) {
         roots.push(value)?;

@@ -18,7 +18,7 @@ use Rattle.napi_types.specs.parts.Frames.{caller_of}
 use Rattle.napi_types.specs.parts.Graph.{StoreState, IsSoundStore, IsLive, number_in, graph_of}
 use Rattle.napi_types.specs.parts.Heap.{Heap, handle_value}
 use Rattle.napi_types.specs.parts.HeapChanges.{with_handle}
-use Rattle.napi_types.specs.parts.Promises.{Promises, Deferred, promise_state, state_of, reactions_of, deferred_promise, with_promise, with_settled, with_reaction, reactions_settled}
+use Rattle.napi_types.specs.parts.Promises.{Promises, Deferred, promise_state, state_now, reactions_of, deferred_promise, with_promise, with_settled, with_reaction, reactions_settled}
 use Rattle.napi_types.specs.parts.References.{ReferenceMap}
 use Rattle.napi_types.specs.parts.Scopes.{gives}
 use Rattle.napi_types.specs.parts.Values.{Value, undefined_value}
@@ -243,7 +243,7 @@ pub react-answers : (e : Environment) (s : StoreState) (scopes : HandleScopes) (
     → is_some (promise_state ps v) ≡ true → (addon : ℕ) → addon ≡ caller_of e.frames
     → AnswersInTime (seen_by e s scopes m rs a p ps) (call.AddReaction h entry payload)
     (record (plain status.Ok out.Nothing) { made = Some (ticket_duty (new_ticket e.book)) })
-    (seen_by (record e { book = with_registration (reaction_of addon entry payload (state_of ps v)) e.book }) s scopes m rs a p (with_reaction v (new_ticket e.book) ps))
+    (seen_by (record e { book = with_registration (reaction_of addon entry payload (state_now ps v)) e.book }) s scopes m rs a p (with_reaction v (new_ticket e.book) ps))
 react-answers e s scopes m rs a p ps h entry payload v sound here promised given some addon caller =
     let env : Environment = seen_by e s scopes m rs a p ps in
     let c : Call = call.AddReaction h entry payload in
@@ -252,13 +252,13 @@ react-answers e s scopes m rs a p ps h entry payload v sound here promised given
     let value : handle_value env.heap h.0 ≡ number_in s v = ap (λ o. unwrap_or o undefined_value) (known-handle s scopes h.0 v given) in
     let after : ℕ → Promises → ℕ → Answer Environment =
     λ who q state. record { reply = r; after = record env { promises = q; book = with_registration (reaction_of who entry payload state) e.book } } in
-    let same : state_of env.promises (number_in s v) ≡ state_of ps v = ap (λ o. unwrap_or o 0) (seen-state s sound ps v here promised) in
-    replied-timely env (after addon (promises_seen s (with_reaction v t ps)) (state_of ps v)).after c r
+    let same : state_now env.promises (number_in s v) ≡ state_now ps v = ap (λ o. unwrap_or o 0) (seen-state s sound ps v here promised) in
+    replied-timely env (after addon (promises_seen s (with_reaction v t ps)) (state_now ps v)).after c r
     (react-unrefused e s scopes m rs a p ps h entry payload v sound here promised given some) refl
-    (ap (λ n. after (caller_of e.frames) (with_reaction n t env.promises) (state_of env.promises n)) value
+    (ap (λ n. after (caller_of e.frames) (with_reaction n t env.promises) (state_now env.promises n)) value
     ∙ ap (λ k. after (caller_of e.frames) (with_reaction (number_in s v) t env.promises) k) same
-    ∙ ap (λ q. after (caller_of e.frames) q (state_of ps v)) (sym (seen-with_reaction s sound ps v t here promised))
-    ∙ ap (λ who. after who (promises_seen s (with_reaction v t ps)) (state_of ps v)) (sym caller))
+    ∙ ap (λ q. after (caller_of e.frames) q (state_now ps v)) (sym (seen-with_reaction s sound ps v t here promised))
+    ∙ ap (λ who. after who (promises_seen s (with_reaction v t ps)) (state_now ps v)) (sym caller))
 
 -- THE VALUE OF A REACTION
 -- there is none

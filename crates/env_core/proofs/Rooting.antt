@@ -69,8 +69,8 @@ abbrev plain_roots : Environment → List ℕ
 plain_roots e =
     numbers starting_values ++ map (λ h. h.value) (held_by_frames e.heap.scopes) ++ strong_values e.references ++ map (λ r. r.value) e.tsfn_roots ++ option_to_list e.pending
 
-abbrev root_values : List TsfnRoot → List ℕ
-root_values rs = map (λ r. r.value) rs
+abbrev tsfn_root_values : List TsfnRoot → List ℕ
+tsfn_root_values rs = map (λ r. r.value) rs
 
 abbrev handle_values : List OpenHandle → List ℕ
 handle_values hs = map (λ h. h.value) hs
@@ -122,7 +122,7 @@ module _ (s : StoreState) where
   -- the roots but the promises, in the order of the machine
   in-order : (e : Environment) (scopes : HandleScopes) (m : ReferenceMap) (rs : List TsfnRoot) (p : Option ℕ) (ps : Promises) (starting : List ℕ)
       → AreStarting s starting
-      → map (number_in s) (starting ++ held_values scopes ++ strong_values m ++ root_values rs ++ option_to_list p)
+      → map (number_in s) (starting ++ held_values scopes ++ strong_values m ++ tsfn_root_values rs ++ option_to_list p)
       ≡ plain_roots (whole_environment e s scopes m rs p ps)
   in-order e scopes m rs p ps starting are =
       let n : List ℕ → List ℕ = map (number_in s) in
@@ -130,7 +130,7 @@ module _ (s : StoreState) where
       let held : List ℕ = held_values scopes in
       let seen : List ℕ = handle_values (held_by_frames (map (seen_frame s) scopes.frames)) in
       let strong : List ℕ = strong_values m in
-      let functions : List ℕ = root_values rs in
+      let functions : List ℕ = tsfn_root_values rs in
       let last : List ℕ = option_to_list p in
       map-append (number_in s) (starting ++ held ++ strong ++ functions) last
       ∙ ap (λ l. l ++ n last) (map-append (number_in s) (starting ++ held ++ strong) functions)
@@ -140,14 +140,14 @@ module _ (s : StoreState) where
       ∙ ap (λ l. first ++ l ++ n strong ++ n functions ++ n last) (sym (frames-seen scopes.frames))
       ∙ ap (λ l. first ++ seen ++ l ++ n functions ++ n last) (sym (rows-strong m.rows))
       ∙ ap (λ l. first ++ seen ++ strong_values (references_seen s m) ++ l ++ n last) (sym (values-seen s rs))
-      ∙ ap (λ l. first ++ seen ++ strong_values (references_seen s m) ++ root_values (tsfn_roots_seen s rs) ++ l) (sym (pending-at p))
+      ∙ ap (λ l. first ++ seen ++ strong_values (references_seen s m) ++ tsfn_root_values (tsfn_roots_seen s rs) ++ l) (sym (pending-at p))
 
   -- and in any order
   pub roots-seen : (e : Environment) (scopes : HandleScopes) (m : ReferenceMap) (rs : List TsfnRoot) (p : Option ℕ) (ps : Promises) (ids : List ℕ)
       → IsSoundStore s → PromisesAreLive s ps → AreMaps ps → AreRoots s scopes m rs p ps ids
       → HaveSameNumbers (map (number_in s) ids) (roots (whole_environment e s scopes m rs p ps))
   roots-seen e scopes m rs p ps ids sound live maps r =
-      let first : List ℕ = r.starting ++ held_values scopes ++ strong_values m ++ root_values rs ++ option_to_list p in
+      let first : List ℕ = r.starting ++ held_values scopes ++ strong_values m ++ tsfn_root_values rs ++ option_to_list p in
       let last : List ℕ = promise_roots ps in
       λ n. same-mapped (number_in s) ids (first ++ last) r.are n
       ∙ ap (has_number n) (map-append (number_in s) first last)
@@ -168,8 +168,8 @@ pub roots-start : (s : StoreState) (scopes : HandleScopes) (m : ReferenceMap) (r
     → AreRoots s scopes m rs p ps ids → HoldsStarting s ids
 roots-start s scopes m rs p ps ids r which h =
     let n : List ℕ → List ℕ = map (number_in s) in
-    let rest : List ℕ = held_values scopes ++ (strong_values m ++ (root_values rs ++ (option_to_list p ++ promise_roots ps))) in
-    let all : List ℕ = r.starting ++ held_values scopes ++ strong_values m ++ root_values rs ++ option_to_list p ++ promise_roots ps in
+    let rest : List ℕ = held_values scopes ++ (strong_values m ++ (tsfn_root_values rs ++ (option_to_list p ++ promise_roots ps))) in
+    let all : List ℕ = r.starting ++ held_values scopes ++ strong_values m ++ tsfn_root_values rs ++ option_to_list p ++ promise_roots ps in
     let are : all ≡ r.starting ++ rest = simp append_assoc in
     let seen : n all ≡ numbers starting_values ++ n rest = ap n are ∙ map-append (number_in s) r.starting rest ∙ ap (λ l. l ++ n rest) r.are_starting.numbers_are in
     same-mapped (number_in s) ids all r.are (which + 1) ∙ ap (has_number (which + 1)) seen ∙ starts-with which (n rest) h
@@ -248,23 +248,23 @@ pending-live s (Some v) live = All-cons (IsLive s) v [] live (All-nil (IsLive s)
 pub gathered : (s : StoreState) (scopes : HandleScopes) (m : ReferenceMap) (rs : List TsfnRoot) (p : Option ℕ) (ps : Promises)
     (first second third fourth fifth ids : List ℕ)
     → HoldsLive s scopes → RefersToLive s m → RootsAreLive s rs → IfSome p (IsLive s) → PromisesAreLive s ps → AreStarting s first
-    → second ≡ first ++ held_values scopes → HaveSameNumbers third (second ++ strong_values m) → fourth ≡ third ++ root_values rs
+    → second ≡ first ++ held_values scopes → HaveSameNumbers third (second ++ strong_values m) → fourth ≡ third ++ tsfn_root_values rs
     → fifth ≡ fourth ++ option_to_list p → HaveSameNumbers ids (fifth ++ promise_roots ps) → AreRoots s scopes m rs p ps ids
 gathered s scopes m rs p ps first second third fourth fifth ids held referred rooted pending promised start a b c d e =
     let L : ℕ → Type 0 = IsLive s in
     let last : List ℕ = promise_roots ps in
     let outer : List ℕ = first ++ held_values scopes ++ strong_values m in
-    let most : List ℕ = outer ++ root_values rs ++ option_to_list p in
+    let most : List ℕ = outer ++ tsfn_root_values rs ++ option_to_list p in
     let all : List ℕ = most ++ last in
     let but_promises : HaveSameNumbers fifth most =
     λ n. ap (has_number n) (d ∙ ap (λ l. l ++ option_to_list p) c)
-    ∙ same-before (option_to_list p) (third ++ root_values rs) (second ++ strong_values m ++ root_values rs) (same-before (root_values rs) third (second ++ strong_values m) b) n
-    ∙ ap (λ l. has_number n (l ++ strong_values m ++ root_values rs ++ option_to_list p)) a in
+    ∙ same-before (option_to_list p) (third ++ tsfn_root_values rs) (second ++ strong_values m ++ tsfn_root_values rs) (same-before (tsfn_root_values rs) third (second ++ strong_values m) b) n
+    ∙ ap (λ l. has_number n (l ++ strong_values m ++ tsfn_root_values rs ++ option_to_list p)) a in
     let are : HaveSameNumbers ids all = λ n. e n ∙ same-before last fifth most but_promises n in
     let live : All L all =
     All-append L most last
-    (All-append L (outer ++ root_values rs) (option_to_list p)
-    (All-append L outer (root_values rs)
+    (All-append L (outer ++ tsfn_root_values rs) (option_to_list p)
+    (All-append L outer (tsfn_root_values rs)
     (All-append L (first ++ held_values scopes) (strong_values m)
     (All-append L first (held_values scopes) start.live (All-map L (λ (h : OpenHandle). h.value) (held_by_frames scopes.frames) held))
     (strong_values-AllValues L m referred))

@@ -158,30 +158,30 @@ rows-closed rows rises rising = record {
 }
 
 -- of the rows those stay that are kept and of another function
-abbrev pub is_left : ℕ → RootRow → Bool
-is_left n r = r.kept && not (r.function.0 == n)
+abbrev pub is_left_row : ℕ → RootRow → Bool
+is_left_row n r = r.kept && not (r.function.0 == n)
 
-pub left-kept : (n : ℕ) (rows : List RootRow) → kept_roots (filter (is_left n) rows) ≡ filter (is_of_another n) (kept_roots rows)
+pub left-kept : (n : ℕ) (rows : List RootRow) → kept_roots (filter (is_left_row n) rows) ≡ filter (is_of_another n) (kept_roots rows)
 left-kept n [] = refl
 left-kept n (r ∷ rs) = by r.kept (not (row_number r == n)) refl refl (left-kept n rs)
   where
-    by : (a b : Bool) → r.kept ≡ a → not (row_number r == n) ≡ b → kept_roots (filter (is_left n) rs) ≡ filter (is_of_another n) (kept_roots rs)
-        → kept_roots (cond (a && b) (r ∷ filter (is_left n) rs) (filter (is_left n) rs)) ≡ filter (is_of_another n) (map root_of_row (cond a (r ∷ filter is_row_kept rs) (filter is_row_kept rs)))
+    by : (a b : Bool) → r.kept ≡ a → not (row_number r == n) ≡ b → kept_roots (filter (is_left_row n) rs) ≡ filter (is_of_another n) (kept_roots rs)
+        → kept_roots (cond (a && b) (r ∷ filter (is_left_row n) rs) (filter (is_left_row n) rs)) ≡ filter (is_of_another n) (map root_of_row (cond a (r ∷ filter is_row_kept rs) (filter is_row_kept rs)))
     by true true kept other rest =
-        ap (λ c. map root_of_row (cond c (r ∷ filter is_row_kept (filter (is_left n) rs)) (filter is_row_kept (filter (is_left n) rs)))) kept
+        ap (λ c. map root_of_row (cond c (r ∷ filter is_row_kept (filter (is_left_row n) rs)) (filter is_row_kept (filter (is_left_row n) rs)))) kept
         ∙ ap (λ l. root_of_row r ∷ l) rest
         ∙ sym (ap (λ c. cond c (root_of_row r ∷ filter (is_of_another n) (kept_roots rs)) (filter (is_of_another n) (kept_roots rs))) other)
     by true false kept other rest = rest ∙ sym (ap (λ c. cond c (root_of_row r ∷ filter (is_of_another n) (kept_roots rs)) (filter (is_of_another n) (kept_roots rs))) other)
     by false b kept other rest = rest
 
-pub rows-left : (n : ℕ) (rows : List RootRow) (rises : Bool) → rises ≡ false → AreRootRows (filter (is_left n) rows) 0 rises
+pub rows-left : (n : ℕ) (rows : List RootRow) (rises : Bool) → rises ≡ false → AreRootRows (filter (is_left_row n) rows) 0 rises
 rows-left n rows rises falls = record {
-  counted = gone-counted (filter (is_left n) rows) (filter_all is_row_kept (filter (is_left n) rows) (λ k d inside. kept (slice_index_or (filter (is_left n) rows) k d) (passing row_number (is_left n) rows k d inside)));
+  counted = gone-counted (filter (is_left_row n) rows) (filter_all is_row_kept (filter (is_left_row n) rows) (λ k d inside. kept (slice_index_or (filter (is_left_row n) rows) k d) (passing row_number (is_left_row n) rows k d inside)));
   few = omega arith;
   rising = λ is. let no : ⊥ = cc in absurd no;
 }
   where
-    kept : (r : RootRow) → is_left n r ≡ true → r.kept ≡ true
+    kept : (r : RootRow) → is_left_row n r ≡ true → r.kept ≡ true
     kept r is = by r.kept is
       where
         by : (a : Bool) → (a && not (row_number r == n)) ≡ true → a ≡ true

@@ -19,7 +19,7 @@ ghost use Rattle.napi_types.specs.environment.Moments.{guard_status, is_tearing,
 ghost use Rattle.napi_types.specs.environment.Refusals.{refusal_by_state, refusal_before_depth};
 ghost use Rattle.napi_types.specs.environment.Registering.{finalizer_if};
 ghost use Rattle.env_core.specs.Standing.{machine_frame};
-ghost use Rattle.env_registry.specs.Registering.{registration_of};
+ghost use Rattle.env_registry.specs.Registering.{finalizer_registration};
 ghost use Rattle.env_core.specs.Core.{next_init};
 ghost use Rattle.env_core.specs.State.{HasNumbersFor, Calls, Answers, AnswersInTime, FindsNoMemory, opening_call, closing_call};
 
@@ -426,7 +426,7 @@ impl State {
 
     /// A finalizer as a call registers it, where the call names an entry: the entry is one of the addon that calls.
     fn finalizer_if(&self, payload: u64, entry: Option<u32>, hint: u64) -> Option<Finalizer>
-        ensures { option_map registration_of result ≡ finalizer_if self.now payload entry hint }
+        ensures { option_map finalizer_registration result ≡ finalizer_if self.now payload entry hint }
     {
         Some(Finalizer {
             addon: self.caller(),

@@ -6,14 +6,14 @@ use Rattle.napi_types.specs.parts.Promises.{Promises, reactions_settled}
 use Rattle.napi_types.specs.environment.PromiseCalls.{reaction_state}
 use Rattle.napi_types.proofs.plain.Found.{apart-below, same-self}
 use Rattle.finalizer_queue.specs.KeptBook.{KeptBook}
-use Rattle.env_registry.specs.KeptRegistry.{IsKept}
+use Rattle.env_registry.specs.KeptRegistry.{IsKeptRegistry}
 use Rattle.env_registry.proofs.Keeping.{kept-settled}
 
 -- the book after a deferred was settled, or refused
 pub kept-either : {T E : Type 0} (a : Attachments) (p q : Promises) (old new : KeptBook) (state : ℕ) (tickets : T → List ℕ) (r : Result T E)
-    → IfOk r (λ v. new.book ≡ reactions_settled state (tickets v) old.book) → OnErr r ((q ≡ p) × (new ≡ old)) → IsKept a old.book → IsKept a new.book
-kept-either a p q old new state tickets (Ok v) due err k = subst (IsKept a) (sym due) (kept-settled a old.book state (tickets v) k)
-kept-either a p q old new state tickets (Err e) due err k = subst (λ (b : KeptBook). IsKept a b.book) (sym err.1) k
+    → IfOk r (λ v. new.book ≡ reactions_settled state (tickets v) old.book) → OnErr r ((q ≡ p) × (new ≡ old)) → IsKeptRegistry a old.book → IsKeptRegistry a new.book
+kept-either a p q old new state tickets (Ok v) due err k = subst (IsKeptRegistry a) (sym due) (kept-settled a old.book state (tickets v) k)
+kept-either a p q old new state tickets (Err e) due err k = subst (λ (b : KeptBook). IsKeptRegistry a b.book) (sym err.1) k
 
 -- A REACTION THAT IS DUE AT ONCE
 -- the last registration is changed

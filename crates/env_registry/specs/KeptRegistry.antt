@@ -36,7 +36,7 @@ pub record AreOnce (a : Attachments) : Type 0 where
   pub tags : as_map (λ t. t.value) a.tags ≡ a.tags
 
 -- a value has one wrap and one tag at most, the book gave each ticket that is attached, and what is registered is no frame that a call begins
-pub record IsKept (a : Attachments) (book : Book) : Type 0 where
+pub record IsKeptRegistry (a : Attachments) (book : Book) : Type 0 where
   pub once : AreOnce a
   pub given_with_wraps : All (λ w. IfSome w.ticket (IsGiven book)) a.wraps
   pub given : All (λ t. IsGiven book t.ticket) a.tickets

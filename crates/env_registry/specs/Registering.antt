@@ -7,8 +7,8 @@ use Rattle.env_registry.specs.declared.finalizer.Finalizer.{Finalizer}
 
 -- REGISTERED
 -- a finalizer as it is registered
-abbrev pub registration_of : Finalizer → Registration
-registration_of f = record { cause = cause.Finalize; addon = f.addon; entry = f.entry; payload = f.payload; hint = f.hint; state = Registered }
+abbrev pub finalizer_registration : Finalizer → Registration
+finalizer_registration f = record { cause = cause.Finalize; addon = f.addon; entry = f.entry; payload = f.payload; hint = f.hint; state = Registered }
 
 -- the ticket that the next registration gets, where there is something to register
 abbrev pub ticket_for : Book → Option Registration → Option ℕ

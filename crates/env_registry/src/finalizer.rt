@@ -1,7 +1,7 @@
 //! Finalizers, as calls name them.
 ghost use Rattle.std.specs.Prelude.{◌≡◌};
 ghost use Rattle.finalizer_queue.specs.TicketRows.{registration_of as duty_registration};
-ghost use Rattle.env_registry.specs.Registering.{registration_of};
+ghost use Rattle.env_registry.specs.Registering.{finalizer_registration};
 
 use finalizer_queue::NewDuty;
 use napi_types::Cause;
@@ -22,7 +22,7 @@ pub struct Finalizer {
 impl Finalizer {
     /// What is registered of it.
     pub(crate) fn duty(self) -> NewDuty
-        ensures { duty_registration result ≡ registration_of self }
+        ensures { duty_registration result ≡ finalizer_registration self }
     {
         NewDuty {
             cause: Cause::Finalize,

@@ -1,7 +1,7 @@
 //! What registers a finalizer, or withdraws one, makes of the book.
 ghost use Rattle.std.specs.Prelude.{◌≡◌, ◌<◌, ◌≤◌, ◌^◌, length, option_map, IsSome, OnOk, OnErr};
 ghost use Rattle.napi_types.specs.environment.Registering.{registered_only};
-ghost use Rattle.env_registry.specs.Registering.{registration_of, ticket_for, with_registration_if, duty_if, withdrawn_if};
+ghost use Rattle.env_registry.specs.Registering.{finalizer_registration, ticket_for, with_registration_if, duty_if, withdrawn_if};
 
 use crate::finalizer::Finalizer;
 use finalizer_queue::Book;
@@ -23,8 +23,8 @@ pub(crate) fn reserve_if(book: &mut Book, finalizer: Option<Finalizer>) -> Resul
 pub(crate) fn register_if(book: &mut Book, finalizer: Option<Finalizer>) -> Option<Ticket>
     requires reserved { IsSome finalizer → 0 < book.old.spare }
     requires few { length book.old.book < 2 ^ 62 }
-    ensures ticket { option_map (λ t. t.0) result ≡ ticket_for book.old.book (option_map registration_of finalizer) }
-    ensures registered { book.new.book ≡ with_registration_if (option_map registration_of finalizer) book.old.book }
+    ensures ticket { option_map (λ t. t.0) result ≡ ticket_for book.old.book (option_map finalizer_registration finalizer) }
+    ensures registered { book.new.book ≡ with_registration_if (option_map finalizer_registration finalizer) book.old.book }
 {
     let finalizer = finalizer?;
     Some(book.register(finalizer.duty()))

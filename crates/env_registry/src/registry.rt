@@ -31,7 +31,7 @@ pub struct Registry {
 }
 
 impl Model for Registry {
-    ghost use Rattle.env_registry.specs.KeptRegistry.{KeptRegistry, IsKept};
+    ghost use Rattle.env_registry.specs.KeptRegistry.{KeptRegistry, IsKeptRegistry};
 
     ghost Value = { KeptRegistry };
 
@@ -49,7 +49,7 @@ impl Model for Registry {
       deferreds = r.promises.spare;
     } };
 
-    ghost invariant = { λ r. IsKept r.wraps.attachments r.book.book };
+    ghost invariant = { λ r. IsKeptRegistry r.wraps.attachments r.book.book };
 }
 
 impl Registry {

@@ -18,14 +18,14 @@ abbrev pub is_busy : FunctionState → Bool
 is_busy f = is_some (tsfn_move f)
 
 -- a function as the frame of its duty begins: an item is taken out, and after its finalizer it is done
-abbrev pub with_begun : Duty → FunctionState → FunctionState
-with_begun (duty.Item id n) f = first_taken f
-with_begun (duty.Function id) f = done f
-with_begun _ f = f
+abbrev pub with_duty_begun : Duty → FunctionState → FunctionState
+with_duty_begun (duty.Item id n) f = first_taken f
+with_duty_begun (duty.Function id) f = done f
+with_duty_begun _ f = f
 
 -- and as it moves
 abbrev pub moved_by : Option HubMove → FunctionState → FunctionState
 moved_by None f = f
-moved_by (Some (Delivers d)) f = with_begun d.duty f
+moved_by (Some (Delivers d)) f = with_duty_begun d.duty f
 moved_by (Some (Closes id)) f = closed f
 moved_by (Some (Finishes id)) f = finished f

@@ -6,7 +6,7 @@ ghost use Rattle.napi_types.specs.parts.Promises.{promises_left};
 ghost use Rattle.napi_types.specs.environment.ExternalCalls.{attached_if};
 ghost use Rattle.napi_types.specs.environment.Registering.{registered_only};
 ghost use Rattle.wrap_tag.specs.Wraps.{is_one_of};
-ghost use Rattle.env_registry.specs.Registering.{registration_of, ticket_for, with_registration_if, duty_if, withdrawn_if};
+ghost use Rattle.env_registry.specs.Registering.{finalizer_registration, ticket_for, with_registration_if, duty_if, withdrawn_if};
 
 use super::Registry;
 use super::promises::take_away;
@@ -38,8 +38,8 @@ impl Registry {
         requires slip { IsSome finalizer → 0 < self.old.slips }
         requires few { length self.old.parts.book < 2 ^ 62 }
         requires absent { wrap_of self.old.parts.attachments value.0 ≡ None }
-        ensures made { result ≡ duty_if (ticket_for self.old.parts.book (option_map registration_of finalizer)) }
-        ensures wrapped { let asked = option_map registration_of finalizer in self.new.parts ≡ record self.old.parts {
+        ensures made { result ≡ duty_if (ticket_for self.old.parts.book (option_map finalizer_registration finalizer)) }
+        ensures wrapped { let asked = option_map finalizer_registration finalizer in self.new.parts ≡ record self.old.parts {
           attachments = with_wrap value.0 payload (ticket_for self.old.parts.book asked) self.old.parts.attachments;
           book = with_registration_if asked self.old.parts.book;
         } }
@@ -113,8 +113,8 @@ impl Registry {
         requires place { IsSome finalizer → 0 < self.old.places }
         requires slip { IsSome finalizer → 0 < self.old.slips }
         requires few { length self.old.parts.book < 2 ^ 62 }
-        ensures made { result ≡ duty_if (ticket_for self.old.parts.book (option_map registration_of finalizer)) }
-        ensures attached { let asked = option_map registration_of finalizer in self.new.parts ≡ record self.old.parts {
+        ensures made { result ≡ duty_if (ticket_for self.old.parts.book (option_map finalizer_registration finalizer)) }
+        ensures attached { let asked = option_map finalizer_registration finalizer in self.new.parts ≡ record self.old.parts {
           attachments = attached_if value.0 (ticket_for self.old.parts.book asked) self.old.parts.attachments;
           book = with_registration_if asked self.old.parts.book;
         } }

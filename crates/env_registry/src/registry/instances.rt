@@ -2,7 +2,7 @@
 ghost use Rattle.std.specs.Prelude.{◌≡◌, ◌<◌, ◌^◌, length, option_map, IsSome, IfOk, OnOk, OnErr};
 ghost use Rattle.napi_types.specs.parts.InstanceData.{instance_number, instance_ticket, with_instance};
 ghost use Rattle.napi_types.specs.environment.Registering.{registered_only};
-ghost use Rattle.env_registry.specs.Registering.{registration_of, ticket_for, with_registration_if, duty_if, withdrawn_if};
+ghost use Rattle.env_registry.specs.Registering.{finalizer_registration, ticket_for, with_registration_if, duty_if, withdrawn_if};
 
 use super::Registry;
 use crate::finalizer::Finalizer;
@@ -30,8 +30,8 @@ impl Registry {
         requires few { length self.old.parts.book < 2 ^ 62 }
         ensures dropped { let ticket = registered_only self.old.parts.book (instance_ticket self.old.parts.instances addon) in
             IfOk result (λ r. r.dropped ≡ duty_if ticket) }
-        ensures made { IfOk result (λ r. r.made ≡ duty_if (ticket_for self.old.parts.book (option_map registration_of finalizer))) }
-        ensures set { let asked = option_map registration_of finalizer in let before = self.old.parts in
+        ensures made { IfOk result (λ r. r.made ≡ duty_if (ticket_for self.old.parts.book (option_map finalizer_registration finalizer))) }
+        ensures set { let asked = option_map finalizer_registration finalizer in let before = self.old.parts in
             OnOk result (self.new.parts ≡ record before {
               book = with_registration_if asked (withdrawn_if (registered_only before.book (instance_ticket before.instances addon)) before.book);
               instances = with_instance addon (record { payload = payload; ticket = ticket_for before.book asked }) before.instances;

@@ -4,7 +4,7 @@ ghost use Rattle.std.specs.Result.{result_err};
 ghost use Rattle.napi_types.specs.declared.status.Status.TheVariants as status;
 ghost use Rattle.napi_types.specs.plain.Lists.{has_number, HaveSameNumbers, when};
 ghost use Rattle.napi_types.specs.parts.Book.{new_ticket, ticket_duty, with_registration};
-ghost use Rattle.napi_types.specs.parts.Promises.{promise_at, promise_state, state_of, reactions_of, is_reaction_of, deferred_promise, promise_roots, promises_left, with_promise, with_settled, with_reaction, reactions_settled};
+ghost use Rattle.napi_types.specs.parts.Promises.{promise_at, promise_state, state_now, reactions_of, is_reaction_of, deferred_promise, promise_roots, promises_left, with_promise, with_settled, with_reaction, reactions_settled};
 ghost use Rattle.napi_types.specs.environment.PromiseCalls.{reaction_state, reaction_of};
 ghost use Rattle.finalizer_queue.specs.TicketRows.{registration_of};
 ghost use Rattle.wrap_tag.specs.Wraps.{is_one_of};
@@ -108,7 +108,7 @@ impl Registry {
         requires new { (v : ℕ) → is_reaction_of self.old.parts.promises v (new_ticket self.old.parts.book) ≡ false }
         requires few { length self.old.parts.book < 2 ^ 62 }
         ensures made { IfOk result (λ duty. duty ≡ ticket_duty (new_ticket self.old.parts.book)) }
-        ensures reacts { let state = state_of self.old.parts.promises promise.0 in OnOk result (self.new.parts ≡ record self.old.parts {
+        ensures reacts { let state = state_now self.old.parts.promises promise.0 in OnOk result (self.new.parts ≡ record self.old.parts {
           promises = with_reaction promise.0 (new_ticket self.old.parts.book) self.old.parts.promises;
           book = with_registration (reaction_of addon entry payload state) self.old.parts.book;
         }) }

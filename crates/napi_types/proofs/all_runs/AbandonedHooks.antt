@@ -26,8 +26,8 @@ use Rattle.napi_types.proofs.all_runs.Orders.{tickets_told, IsHookIn}
 abbrev pub name_of : ℕ → ℕ → AddedHook
 name_of n t = record { number = n; ticket = t }
 
-abbrev pub name : AsyncHook → AddedHook
-name h = name_of h.number h.ticket
+abbrev pub as_added : AsyncHook → AddedHook
+as_added h = name_of h.number h.ticket
 
 -- how far it has come, where its frame began or not, it was removed or not, and it was abandoned
 abbrev pub StateBy : Bool → Bool → Type 0 → HookState → Type 0
@@ -36,23 +36,23 @@ StateBy begun removed abandoned Waiting = (begun ≡ true) × (removed ≡ false
 StateBy begun removed abandoned Abandoned = (removed ≡ false) × abandoned
 StateBy begun removed abandoned Removed = removed ≡ true
 
-abbrev pub has_begun : List Entry → ℕ → Bool
-has_begun xs t = has_number t (tickets_begun xs)
+abbrev pub hook_has_begun : List Entry → ℕ → Bool
+hook_has_begun xs t = has_number t (tickets_begun xs)
 
 abbrev pub is_removed : List Entry → ℕ → Bool
 is_removed xs n = has_number n (numbers_removed xs)
 
 abbrev pub StateTold : List Entry → AsyncHook → Type 0
-StateTold xs h = StateBy (has_begun xs h.ticket) (is_removed xs h.number) (IsAbandoned (name h) xs) h.state
+StateTold xs h = StateBy (hook_has_begun xs h.ticket) (is_removed xs h.number) (IsAbandoned (as_added h) xs) h.state
 
 -- the hooks of the environment are those that the entries add, each has come as far as they tell, and no other was removed
 pub record HooksTold (xs : List Entry) (hooks : List AsyncHook) : Type 0 where
-  pub names : map name hooks ≡ hooks_added xs
+  pub names : map as_added hooks ≡ hooks_added xs
   pub known : (n : ℕ) → has_number n (map (λ h. h.number) hooks) ≡ false → is_removed xs n ≡ false
   pub states : All (StateTold xs) hooks
 
 -- the numbers of the hooks
-pub told-numbers : (hooks : List AsyncHook) → map (λ h. h.number) hooks ≡ map (λ h. h.number) (map name hooks)
+pub told-numbers : (hooks : List AsyncHook) → map (λ h. h.number) hooks ≡ map (λ h. h.number) (map as_added hooks)
 told-numbers [] = refl
 told-numbers (h ∷ hooks) = ap (λ ns. h.number ∷ ns) (told-numbers hooks)
 
@@ -81,7 +81,7 @@ module _ (xs : List Entry) (x : Entry) where
   added-more : hooks_added (xs ++ x ∷ []) ≡ hooks_added xs ++ (hook_news x).added
   added-more = sym (flat_map_more (λ (y : Entry). hook_added y.what y.reply.out y.reply.made) [] xs x)
 
-  begun-one : (t : ℕ) → has_begun (xs ++ x ∷ []) t ≡ (has_begun xs t || has_number t (hook_news x).begun)
+  begun-one : (t : ℕ) → hook_has_begun (xs ++ x ∷ []) t ≡ (hook_has_begun xs t || has_number t (hook_news x).begun)
   begun-one t =
       ap (has_number t) (sym (flat_map_more tickets_told [] xs x)) ∙ list_any-append (λ m. m == t) (tickets_begun xs) (hook_news x).begun
 
@@ -109,7 +109,7 @@ or-none : (a b : Bool) → b ≡ false → (a || b) ≡ a
 or-none true b is = refl
 or-none false b is = is
 
-same-name : (change : AsyncHook → AsyncHook) → KeepsNames change → (h : AsyncHook) → name (change h) ≡ name h
+same-name : (change : AsyncHook → AsyncHook) → KeepsNames change → (h : AsyncHook) → as_added (change h) ≡ as_added h
 same-name change keeps h = by (keeps.number h) (keeps.ticket h)
   where
     by : {m n t u : ℕ} → m ≡ n → t ≡ u → name_of m t ≡ name_of n u
@@ -146,18 +146,18 @@ waits-not s is same = let no : true ≡ false = sym (ap is_waiting same) ∙ is 
 module _ (xs : List Entry) (x : Entry) (old : List AsyncHook) (k : HooksTold xs old) where
   -- a hook that this entry does not tell of
   untold : (h : AsyncHook) (s : HookState) → has_number h.ticket (hook_news x).begun ≡ false → has_number h.number (hook_news x).removed ≡ false
-      → StateBy (has_begun xs h.ticket) (is_removed xs h.number) (IsAbandoned (name h) xs) s
-      → StateBy (has_begun (xs ++ x ∷ []) h.ticket) (is_removed (xs ++ x ∷ []) h.number) (IsAbandoned (name h) (xs ++ x ∷ [])) s
+      → StateBy (hook_has_begun xs h.ticket) (is_removed xs h.number) (IsAbandoned (as_added h) xs) s
+      → StateBy (hook_has_begun (xs ++ x ∷ []) h.ticket) (is_removed (xs ++ x ∷ []) h.number) (IsAbandoned (as_added h) (xs ++ x ∷ [])) s
   untold h s begun removed state =
-      state-stays s (begun-one xs x h.ticket ∙ or-none (has_begun xs h.ticket) _ begun) (removed-one xs x h.number ∙ or-none (is_removed xs h.number) _ removed)
-      (still-abandoned xs x (name h)) state
+      state-stays s (begun-one xs x h.ticket ∙ or-none (hook_has_begun xs h.ticket) _ begun) (removed-one xs x h.number ∙ or-none (is_removed xs h.number) _ removed)
+      (still-abandoned xs x (as_added h)) state
 
   -- the hooks are the same ones, and each state is what the entries tell
   mapped-told : (change : AsyncHook → AsyncHook) → KeepsNames change → (hook_news x).added ≡ []
       → ((n : ℕ) → has_number n (map (λ (h : AsyncHook). h.number) old) ≡ false → has_number n (hook_news x).removed ≡ false)
       → All (λ h. StateTold (xs ++ x ∷ []) (change h)) old → HooksTold (xs ++ x ∷ []) (map change old)
   mapped-told change keeps none fewer states = record {
-    names = same-told change keeps name (same-name change keeps) old ∙ k.names ∙ sym (append-nil (hooks_added xs))
+    names = same-told change keeps as_added (same-name change keeps) old ∙ k.names ∙ sym (append-nil (hooks_added xs))
         ∙ ap (λ hs. hooks_added xs ++ hs) (sym none) ∙ sym (added-more xs x);
     known = λ n absent.
         let was : has_number n (map (λ (h : AsyncHook). h.number) old) ≡ false =
@@ -182,7 +182,7 @@ module _ (xs : List Entry) (x : Entry) (old : List AsyncHook) (k : HooksTold xs 
   added-told : (n t bound : ℕ) → (hook_news x).added ≡ name_of n t ∷ [] → (hook_news x).removed ≡ [] → (hook_news x).begun ≡ []
       → has_number n numbers ≡ false → bound ≤ t → BegunBelow bound xs → HooksTold (xs ++ x ∷ []) (with_async_hook n t old)
   added-told n t bound one lost kept fresh above below = record {
-    names = map-append name old (fresh_hook ∷ []) ∙ ap (λ hs. hs ++ name_of n t ∷ []) k.names ∙ ap (λ hs. hooks_added xs ++ hs) (sym one)
+    names = map-append as_added old (fresh_hook ∷ []) ∙ ap (λ hs. hs ++ name_of n t ∷ []) k.names ∙ ap (λ hs. hooks_added xs ++ hs) (sym one)
         ∙ sym (added-more xs x);
     known = λ m absent.
         let parts = or_parts (has_number m numbers) (has_number m (n ∷ []))
@@ -191,7 +191,7 @@ module _ (xs : List Entry) (x : Entry) (old : List AsyncHook) (k : HooksTold xs 
     states = All-push (StateTold (xs ++ x ∷ [])) old fresh_hook
         (λ j d inside. let h : AsyncHook = slice_index_or old j d in
         untold h h.state (ap (has_number h.ticket) kept) (ap (has_number h.number) lost) (k.states j d inside)) (
-          begun-one xs x t ∙ or-none (has_begun xs t) _ (ap (has_number t) kept) ∙ never-begun t bound (tickets_begun xs) above below,
+          begun-one xs x t ∙ or-none (hook_has_begun xs t) _ (ap (has_number t) kept) ∙ never-begun t bound (tickets_begun xs) above below,
           removed-one xs x n ∙ or-none (is_removed xs n) _ (ap (has_number n) lost) ∙ k.known n fresh,
         );
   }
@@ -230,9 +230,9 @@ module _ (xs : List Entry) (x : Entry) (old : List AsyncHook) (k : HooksTold xs 
       by : (h : AsyncHook) (b : Bool) → (h.ticket == t) ≡ b → ((h.ticket == t) ≡ true → h.state ≡ Set) → StateTold xs h
           → StateTold (xs ++ x ∷ []) (cond b (in_state Waiting h) h)
       by h true is first state =
-          let was : StateBy (has_begun xs h.ticket) (is_removed xs h.number) (IsAbandoned (name h) xs) Set =
-          subst (StateBy (has_begun xs h.ticket) (is_removed xs h.number) (IsAbandoned (name h) xs)) (first is) state in (
-            begun-one xs x h.ticket ∙ or_right (has_begun xs h.ticket) _
+          let was : StateBy (hook_has_begun xs h.ticket) (is_removed xs h.number) (IsAbandoned (as_added h) xs) Set =
+          subst (StateBy (hook_has_begun xs h.ticket) (is_removed xs h.number) (IsAbandoned (as_added h) xs)) (first is) state in (
+            begun-one xs x h.ticket ∙ or_right (hook_has_begun xs h.ticket) _
                 (ap (has_number h.ticket) one ∙ or_left (t == h.ticket) false (turned t h.ticket ∙ is)),
             removed-one xs x h.number ∙ or-none (is_removed xs h.number) _ (ap (has_number h.number) lost) ∙ was.1,
           )
@@ -249,13 +249,13 @@ module _ (xs : List Entry) (x : Entry) (old : List AsyncHook) (k : HooksTold xs 
       Among : AddedHook → Type 0
       Among g = is_unfinished xs g ≡ true → has (λ (j : AddedHook). j.number) g.number (unfinished_hooks xs) ≡ true
 
-      there : All (λ h. Among (name h)) old
-      there = of-map Among name old (subst (All Among) (sym k.names) (unfinished-there xs (hooks_added xs)))
+      there : All (λ h. Among (as_added h)) old
+      there = of-map Among as_added old (subst (All Among) (sym k.names) (unfinished-there xs (hooks_added xs)))
 
-      by : (h : AsyncHook) (b : Bool) → is_waiting h.state ≡ b → Among (name h) → StateTold xs h → StateTold (xs ++ x ∷ []) (cond b (in_state Abandoned h) h)
+      by : (h : AsyncHook) (b : Bool) → is_waiting h.state ≡ b → Among (as_added h) → StateTold xs h → StateTold (xs ++ x ∷ []) (cond b (in_state Abandoned h) h)
       by h true is among state =
-          let was : StateBy (has_begun xs h.ticket) (is_removed xs h.number) (IsAbandoned (name h) xs) Waiting =
-          subst (StateBy (has_begun xs h.ticket) (is_removed xs h.number) (IsAbandoned (name h) xs)) (waiting-only h.state is) state in (
+          let was : StateBy (hook_has_begun xs h.ticket) (is_removed xs h.number) (IsAbandoned (as_added h) xs) Waiting =
+          subst (StateBy (hook_has_begun xs h.ticket) (is_removed xs h.number) (IsAbandoned (as_added h) xs)) (waiting-only h.state is) state in (
             removed-one xs x h.number ∙ or-none (is_removed xs h.number) _ (ap (has_number h.number) lost) ∙ was.1,
             record {
               before = xs;
@@ -263,7 +263,7 @@ module _ (xs : List Entry) (x : Entry) (old : List AsyncHook) (k : HooksTold xs 
               later = [];
               parts = refl;
               abandons = gone;
-              unfinished = among (unfinished-by (has_begun xs h.ticket) (is_removed xs h.number) was.0 was.1);
+              unfinished = among (unfinished-by (hook_has_begun xs h.ticket) (is_removed xs h.number) was.0 was.1);
             },
           )
       by h false is among state = untold h h.state (ap (has_number h.ticket) kept) (ap (has_number h.number) lost) state
@@ -301,7 +301,7 @@ abandoned-some h xs k =
     some l a b c one all = omega (arith, one, all)
 
 -- before any were abandoned, those that wait are the unfinished ones
-waiting-unfinished : (xs : List Entry) (h : AsyncHook) → times_abandoned xs ≡ 0 → StateTold xs h → is_unfinished xs (name h) ≡ is_waiting h.state
+waiting-unfinished : (xs : List Entry) (h : AsyncHook) → times_abandoned xs ≡ 0 → StateTold xs h → is_unfinished xs (as_added h) ≡ is_waiting h.state
 waiting-unfinished xs h none = by h.state
   where
     first : (a b : Bool) → a ≡ false → (a && b) ≡ false
@@ -310,22 +310,22 @@ waiting-unfinished xs h none = by h.state
     last : (a b : Bool) → b ≡ true → (a && not b) ≡ false
     last a b is = rw is (and-false a)
 
-    by : (s : HookState) → StateBy (has_begun xs h.ticket) (is_removed xs h.number) (IsAbandoned (name h) xs) s → is_unfinished xs (name h) ≡ is_waiting s
-    by Set state = first (has_begun xs h.ticket) _ state.0
-    by Waiting state = unfinished-by (has_begun xs h.ticket) (is_removed xs h.number) state.0 state.1
-    by Abandoned state = let some : 0 < times_abandoned xs = abandoned-some (name h) xs state.1 in absurd (omega (arith, some, none))
-    by Removed state = last (has_begun xs h.ticket) (is_removed xs h.number) state
+    by : (s : HookState) → StateBy (hook_has_begun xs h.ticket) (is_removed xs h.number) (IsAbandoned (as_added h) xs) s → is_unfinished xs (as_added h) ≡ is_waiting s
+    by Set state = first (hook_has_begun xs h.ticket) _ state.0
+    by Waiting state = unfinished-by (hook_has_begun xs h.ticket) (is_removed xs h.number) state.0 state.1
+    by Abandoned state = let some : 0 < times_abandoned xs = abandoned-some (as_added h) xs state.1 in absurd (omega (arith, some, none))
+    by Removed state = last (hook_has_begun xs h.ticket) (is_removed xs h.number) state
 
-same-count : (p : AddedHook → Bool) (hooks : List AsyncHook) → All (λ h. p (name h) ≡ is_waiting h.state) hooks
-    → length (filter p (map name hooks)) ≡ count_waiting hooks
+same-count : (p : AddedHook → Bool) (hooks : List AsyncHook) → All (λ h. p (as_added h) ≡ is_waiting h.state) hooks
+    → length (filter p (map as_added hooks)) ≡ count_waiting hooks
 same-count p [] all = refl
 same-count p (h ∷ hooks) all =
-    let P : AsyncHook → Type 0 = λ g. p (name g) ≡ is_waiting g.state in
-    ap (λ b. length (cond b (name h ∷ filter p (map name hooks)) (filter p (map name hooks)))) (All-head P h hooks all)
+    let P : AsyncHook → Type 0 = λ g. p (as_added g) ≡ is_waiting g.state in
+    ap (λ b. length (cond b (as_added h ∷ filter p (map as_added hooks)) (filter p (map as_added hooks)))) (All-head P h hooks all)
     ∙ by (is_waiting h.state) (same-count p hooks (All-tail P h hooks all))
   where
-    by : (b : Bool) → length (filter p (map name hooks)) ≡ count_waiting hooks
-        → length (cond b (name h ∷ filter p (map name hooks)) (filter p (map name hooks))) ≡ length
+    by : (b : Bool) → length (filter p (map as_added hooks)) ≡ count_waiting hooks
+        → length (cond b (as_added h ∷ filter p (map as_added hooks)) (filter p (map as_added hooks))) ≡ length
         (cond b (h ∷ filter (λ (g : AsyncHook). is_waiting g.state) hooks) (filter (λ (g : AsyncHook). is_waiting g.state) hooks))
     by true rest = ap suc rest
     by false rest = rest
@@ -335,38 +335,38 @@ pub unfinished-count : (xs : List Entry) (hooks : List AsyncHook) → times_aban
 unfinished-count xs hooks none k =
     ap (λ hs. length (filter (is_unfinished xs) hs)) (sym k.names)
     ∙ same-count (is_unfinished xs) hooks
-    (All-weaker (StateTold xs) (λ h. is_unfinished xs (name h) ≡ is_waiting h.state) (λ h. waiting-unfinished xs h none) hooks k.states)
+    (All-weaker (StateTold xs) (λ h. is_unfinished xs (as_added h) ≡ is_waiting h.state) (λ h. waiting-unfinished xs h none) hooks k.states)
 
 -- WHERE NONE WAITS
-abbrev pub NoneWaits : List AsyncHook → Type 0
-NoneWaits hooks = All (λ h. is_waiting h.state ≡ false) hooks
+abbrev pub NoHookWaits : List AsyncHook → Type 0
+NoHookWaits hooks = All (λ h. is_waiting h.state ≡ false) hooks
 
 -- each that began is settled
-pub none-unsettled : (xs : List Entry) (hooks : List AsyncHook) → HooksTold xs hooks → NoneWaits hooks → All (IsSettled xs) (hooks_added xs)
+pub none-unsettled : (xs : List Entry) (hooks : List AsyncHook) → HooksTold xs hooks → NoHookWaits hooks → All (IsSettled xs) (hooks_added xs)
 none-unsettled xs hooks k none =
     subst (All (IsSettled xs)) k.names
-    (All-map (IsSettled xs) name hooks
+    (All-map (IsSettled xs) as_added hooks
     (λ j d inside. let h : AsyncHook = slice_index_or hooks j d in settled h h.state (none j d inside) (k.states j d inside)))
   where
-    settled : (h : AsyncHook) (s : HookState) → is_waiting s ≡ false → StateBy (has_begun xs h.ticket) (is_removed xs h.number) (IsAbandoned (name h) xs) s
-        → IsSettled xs (name h)
+    settled : (h : AsyncHook) (s : HookState) → is_waiting s ≡ false → StateBy (hook_has_begun xs h.ticket) (is_removed xs h.number) (IsAbandoned (as_added h) xs) s
+        → IsSettled xs (as_added h)
     settled h Set calm state begun = let no : true ≡ false = sym begun ∙ state.0 in cc
     settled h Waiting calm state begun = cc
     settled h Abandoned calm state begun = inr state.1
     settled h Removed calm state begun = inl state
 
-pub none-counted : (hooks : List AsyncHook) → count_waiting hooks ≡ 0 → NoneWaits hooks
+pub none-counted : (hooks : List AsyncHook) → count_waiting hooks ≡ 0 → NoHookWaits hooks
 none-counted [] none = All-nil (λ (h : AsyncHook). is_waiting h.state ≡ false)
 none-counted (h ∷ hooks) none = by (is_waiting h.state) refl none (none-counted hooks)
   where
     waiting : List AsyncHook
     waiting = filter (λ (g : AsyncHook). is_waiting g.state) hooks
 
-    by : (b : Bool) → is_waiting h.state ≡ b → length (cond b (h ∷ waiting) waiting) ≡ 0 → (count_waiting hooks ≡ 0 → NoneWaits hooks) → NoneWaits (h ∷ hooks)
+    by : (b : Bool) → is_waiting h.state ≡ b → length (cond b (h ∷ waiting) waiting) ≡ 0 → (count_waiting hooks ≡ 0 → NoHookWaits hooks) → NoHookWaits (h ∷ hooks)
     by true is none later = let no : ⊥ = cc in absurd no
     by false is none later = All-cons (λ (g : AsyncHook). is_waiting g.state ≡ false) h hooks is (later none)
 
-pub abandoned-none : (old : List AsyncHook) → NoneWaits (with_abandoned old)
+pub abandoned-none : (old : List AsyncHook) → NoHookWaits (with_abandoned old)
 abandoned-none old =
     All-map (λ (h : AsyncHook). is_waiting h.state ≡ false) (λ (h : AsyncHook). cond (is_waiting h.state) (in_state Abandoned h) h) old
     (λ j d inside. let h : AsyncHook = slice_index_or old j d in by h (is_waiting h.state) refl)
@@ -377,7 +377,7 @@ abandoned-none old =
 
 -- none waits after an entry, unless a hook of the list begins
 pub still-none : (old : List AsyncHook) (list : List Hook) (bound : ℕ) (news : HookNews) (new : List AsyncHook) → ((t : ℕ) → IsHookIn list t → ⊥)
-    → HookStep old list bound news new → NoneWaits old → NoneWaits new
+    → HookStep old list bound news new → NoHookWaits old → NoHookWaits new
 still-none old list bound _ _ empty row.rests none = none
 still-none old list bound _ _ empty (row.passes_by t within apart) none = none
 still-none old list bound _ _ empty (row.adds n t fresh above) none = All-push (λ (h : AsyncHook). is_waiting h.state ≡ false) old _ none refl

@@ -134,8 +134,8 @@ refused-news (call.AddAsyncCleanupHook entry argument) s never = refl
 refused-news _ s never = refl
 
 -- the answer of a call that tells nothing of them
-abbrev Rests : Environment → Answer Environment → Type 0
-Rests e a = a.after.async_hooks ≡ e.async_hooks
+abbrev LeavesHooks : Environment → Answer Environment → Type 0
+LeavesHooks e a = a.after.async_hooks ≡ e.async_hooks
 
 -- a hook that may be removed is one of them
 held-there : (n : ℕ) (hooks : List AsyncHook) → has_async_hook n hooks ≡ true → has_number n (map (λ h. h.number) hooks) ≡ true
@@ -156,29 +156,29 @@ may-be-removed e hook none =
     held-there hook.0 e.async_hooks (not-unless (has_async_hook hook.0 e.async_hooks) status.InvalidArg own)
 
 module _ (e : Environment) where
-  counted-rests : (r : ℕ) (v : Option ℕ) → Rests e (counted_up r e v)
+  counted-rests : (r : ℕ) (v : Option ℕ) → LeavesHooks e (counted_up r e v)
   counted-rests r None = refl
   counted-rests r (Some v) = refl
 
-  value-rests : (v : Option ℕ) → Rests e (value_told e v)
+  value-rests : (v : Option ℕ) → LeavesHooks e (value_told e v)
   value-rests None = refl
   value-rests (Some v) = refl
 
-  settling-rests : (n v state : ℕ) (p : Option ℕ) → Rests e (settling e n v state p)
+  settling-rests : (n v state : ℕ) (p : Option ℕ) → LeavesHooks e (settling e n v state p)
   settling-rests n v state None = refl
   settling-rests n v state (Some p) = refl
 
-  reading-rests : (v : Option ℕ) → Rests e (reaction_told e v)
+  reading-rests : (v : Option ℕ) → LeavesHooks e (reaction_told e v)
   reading-rests None = refl
   reading-rests (Some v) = refl
 
-withdrawn-rests : (e : Environment) (t : Option ℕ) (a : Answer Environment) → Rests e a → Rests e (withdrawing t a)
+withdrawn-rests : (e : Environment) (t : Option ℕ) (a : Answer Environment) → LeavesHooks e a → LeavesHooks e (withdrawing t a)
 withdrawn-rests e None a same = same
 withdrawn-rests e (Some n) a same = same
 
 -- each call but the two
 effect-rests : (e : Environment) (c : Call) (n : ℕ) → ((entry argument : ℕ) → c ≢ call.AddAsyncCleanupHook entry argument)
-    → ((hook : AsyncHookId) → c ≢ call.RemoveAsyncCleanupHook hook) → Rests e (effect e c n)
+    → ((hook : AsyncHookId) → c ≢ call.RemoveAsyncCleanupHook hook) → LeavesHooks e (effect e c n)
 effect-rests e (call.ReferenceRef r) n plain lasting = counted-rests e r.0 (referred_value e.references r.0)
 effect-rests e (call.GetReferenceValue r) n plain lasting = value-rests e (referred_value e.references r.0)
 effect-rests e (call.Wrap v payload None hint false) n plain lasting = refl

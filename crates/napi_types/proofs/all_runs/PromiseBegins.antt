@@ -18,7 +18,7 @@ use Rattle.napi_types.specs.environment.Hooked.{is_from_finals_on, StandsIn, IsH
 use Rattle.napi_types.specs.environment.PromiseCalls.{reaction_state}
 use Rattle.napi_types.specs.environment.Tickets.{ticket_in, next_ticket}
 use Rattle.napi_types.specs.all_runs.SettledPromises as told
-use Rattle.napi_types.specs.all_runs.SettledPromises.{Told, Made, Settled, Added, told_begun, told_reactions, has_begun, EarlierHaveBegun, MayBeTold}
+use Rattle.napi_types.specs.all_runs.SettledPromises.{PromiseFact, MadeDeferred, SettledDeferred, AddedReaction, told_begun, told_reactions, has_begun, EarlierHaveBegun, MayBeTold}
 use Rattle.napi_types.proofs.plain.Lists.{All-left, All-right, of-map}
 use Rattle.napi_types.proofs.parts.Books.{lowest-below}
 use Rattle.napi_types.proofs.parts.Moved.{at-state, at-cause}
@@ -27,21 +27,21 @@ use Rattle.napi_types.proofs.all_runs.Orders.{last-among}
 use Rattle.napi_types.proofs.all_runs.PromiseBooks.{others-same}
 use Rattle.napi_types.proofs.all_runs.PromiseHistory.{History, history, state_by, history-begins}
 use Rattle.napi_types.proofs.all_runs.PromiseReactions.{was-added, kept-begins}
-use Rattle.napi_types.proofs.all_runs.PromiseStates.{view, waiting, Waits, IsTold, Kept, true-or-false, told-at}
+use Rattle.napi_types.proofs.all_runs.PromiseStates.{view, waiting, Waits, IsTold, IsHistoryOf, true-or-false, told-at}
 use Rattle.napi_types.proofs.all_runs.PromiseTells.{Keeps, tells_one, none-told}
 use Rattle.napi_types.proofs.all_runs.QuietCalls.{quiet-same, quiet-book, quiet-kept}
 
 -- RISING TICKETS
-rise-sub : (test : Added → Bool) (xs : List Added) → TicketsRise (map (λ (a : Added). a.ticket) xs) → TicketsRise (map (λ (a : Added). a.ticket) (filter test xs))
+rise-sub : (test : AddedReaction → Bool) (xs : List AddedReaction) → TicketsRise (map (λ (a : AddedReaction). a.ticket) xs) → TicketsRise (map (λ (a : AddedReaction). a.ticket) (filter test xs))
 rise-sub test [] rise = rise
 rise-sub test (x ∷ xs) rise = by (test x) (rise-sub test xs rise.1)
   where
-    above : All (λ m. x.ticket < m) (map (λ (a : Added). a.ticket) (filter test xs))
-    above = All-map (λ m. x.ticket < m) (λ (a : Added). a.ticket) (filter test xs)
-        (All-filter test (λ (a : Added). x.ticket < a.ticket) xs (of-map (λ m. x.ticket < m) (λ (a : Added). a.ticket) xs rise.0))
+    above : All (λ m. x.ticket < m) (map (λ (a : AddedReaction). a.ticket) (filter test xs))
+    above = All-map (λ m. x.ticket < m) (λ (a : AddedReaction). a.ticket) (filter test xs)
+        (All-filter test (λ (a : AddedReaction). x.ticket < a.ticket) xs (of-map (λ m. x.ticket < m) (λ (a : AddedReaction). a.ticket) xs rise.0))
 
-    by : (b : Bool) → TicketsRise (map (λ (a : Added). a.ticket) (filter test xs))
-        → TicketsRise (map (λ (a : Added). a.ticket) (cond b (x ∷ filter test xs) (filter test xs)))
+    by : (b : Bool) → TicketsRise (map (λ (a : AddedReaction). a.ticket) (filter test xs))
+        → TicketsRise (map (λ (a : AddedReaction). a.ticket) (cond b (x ∷ filter test xs) (filter test xs)))
     by true rest = (above, rest)
     by false rest = rest
 
@@ -53,7 +53,7 @@ rise-before (m ∷ earlier) later n rise =
 
 -- WHICH TICKETS BEGIN
 -- where that of a reaction begins, it is the lowest one that is due
-pub record BeginsLowest (e : Environment) (n : ℕ) (r : Registration) (p : Phase) : Type 0 where
+pub record BeginsLowestDue (e : Environment) (n : ℕ) (r : Registration) (p : Phase) : Type 0 where
   pub lowest : lowest_due e.book ≡ Some n
   pub due : r.state ≡ Due
   pub move : begun_in p ≡ made_begun
@@ -63,7 +63,7 @@ due-only Due is = refl
 due-only _ is = cc
 
 pub begins-lowest : (e : Environment) (n : ℕ) (r : Registration) (p : Phase) → IsHooked e → registration_at e.book n ≡ Some r → r.cause ≡ cause.Reaction
-    → ticket_in e p ≡ Some n → may_begin_in p r.state ≡ true → BeginsLowest e n r p
+    → ticket_in e p ≡ Some n → may_begin_in p r.state ≡ true → BeginsLowestDue e n r p
 begins-lowest e n r phase.Live h there why next may = record { lowest = next; due = due-only r.state may; move = refl }
 begins-lowest e n r phase.Finals h there why next may = record { lowest = next; due = due-only r.state may; move = refl }
 begins-lowest e n r phase.Hooks h there why next may =
@@ -76,7 +76,7 @@ begins-lowest e n r phase.Hooks h there why next may =
 begins-lowest e n r _ h there why next may = let no : ⊥ = cc in absurd no
 
 -- A REACTION BEGINS
-module _ (ts : List Told) (e : Environment) (n : ℕ) (r : Registration) (k : Kept (history ts) (view e)) (there : registration_at e.book n ≡ Some r)
+module _ (ts : List PromiseFact) (e : Environment) (n : ℕ) (r : Registration) (k : IsHistoryOf (history ts) (view e)) (there : registration_at e.book n ≡ Some r)
     (why : r.cause ≡ cause.Reaction) (due : r.state ≡ Due) (lowest : lowest_due e.book ≡ Some n) where
   abbrev h : History
   h = history ts
@@ -84,10 +84,10 @@ module _ (ts : List Told) (e : Environment) (n : ℕ) (r : Registration) (k : Ke
   abbrev late : Bool
   late = is_from_finals_on e.phase
 
-  its : (a : Added) × (a.ticket ≡ n) × (IsTold h late e.promises e.book a)
+  its : (a : AddedReaction) × (a.ticket ≡ n) × (IsTold h late e.promises e.book a)
   its = told-at h (view e) k n (was-added h (view e) n r k there why due)
 
-  abbrev a : Added
+  abbrev a : AddedReaction
   a = its.0
 
   abbrev it : IsTold h late e.promises e.book a
@@ -118,7 +118,7 @@ module _ (ts : List Told) (e : Environment) (n : ℕ) (r : Registration) (k : Ke
   is-due : it.registration.state ≡ Due
   is-due = ap (λ (q : Registration). q.state) same ∙ due
 
-  begun-below : (b : Added) → (b.promise == a.promise) ≡ true → IsTold h late e.promises e.book b → b.ticket < n → has_number b.ticket h.begun ≡ true
+  begun-below : (b : AddedReaction) → (b.promise == a.promise) ≡ true → IsTold h late e.promises e.book b → b.ticket < n → has_number b.ticket h.begun ≡ true
   begun-below b one t below = by (has_number b.ticket h.begun) refl
     where
       by : (c : Bool) → has_number b.ticket h.begun ≡ c → c ≡ true
@@ -131,9 +131,9 @@ module _ (ts : List Told) (e : Environment) (n : ℕ) (r : Registration) (k : Ke
 
   earlier-begun : EarlierHaveBegun ts a.promise n
   earlier-begun earlier later parts =
-      let test : Added → Bool = λ b. b.promise == a.promise in
+      let test : AddedReaction → Bool = λ b. b.promise == a.promise in
       let all : All (λ m. m < n → has_number m h.begun ≡ true) (told_reactions ts a.promise) =
-      All-map (λ m. m < n → has_number m h.begun ≡ true) (λ (b : Added). b.ticket) (filter test h.added)
+      All-map (λ m. m < n → has_number m h.begun ≡ true) (λ (b : AddedReaction). b.ticket) (filter test h.added)
       (λ i d inside. begun-below _ (filter_passes test h.added i d inside) (All-filter test (IsTold h late e.promises e.book) h.added k.told i d inside)) in
       let first : All (λ m. m < n → has_number m h.begun ≡ true) earlier =
       All-left (λ m. m < n → has_number m h.begun ≡ true) earlier (n ∷ later) (subst (All (λ m. m < n → has_number m h.begun ≡ true)) parts all) in
@@ -143,13 +143,13 @@ module _ (ts : List Told) (e : Environment) (n : ℕ) (r : Registration) (k : Ke
   pub reaction-begins : Keeps ts (told.Begins n r.hint ∷ []) (record (view e) { book = moved_at made_begun n e.book })
   reaction-begins =
       tells_one (told.Begins n r.hint) (record (view e) { book = moved_at made_begun n e.book })
-      (told.begins n r.hint a.promise (ap (λ m. option_map (λ (b : Added). b.promise) (found (λ (b : Added). b.ticket) m h.added)) (sym its.1)
-      ∙ ap (option_map (λ (b : Added). b.promise)) it.under)
+      (told.begins n r.hint a.promise (ap (λ m. option_map (λ (b : AddedReaction). b.promise) (found (λ (b : AddedReaction). b.ticket) m h.added)) (sym its.1)
+      ∙ ap (option_map (λ (b : AddedReaction). b.promise)) it.under)
       unbegun (sym (ap (λ (q : Registration). q.hint) same) ∙ waits.hint)
       (λ none. sym k.late ∙ pending-late late (state_by h.made h.settled a.promise) (sym is-due ∙ waits.state)
       (sym waits.hint ∙ ap (λ (q : Registration). q.hint) same ∙ none))
       earlier-begun)
-      (subst (λ (g : History). Kept g (record (view e) { book = moved_at made_begun n e.book })) (sym (history-begins ts n r.hint))
+      (subst (λ (g : History). IsHistoryOf g (record (view e) { book = moved_at made_begun n e.book })) (sym (history-begins ts n r.hint))
       (kept-begins h (view e) n r k there why due))
 
 -- ANY TICKET BEGINS
@@ -162,7 +162,7 @@ told-other cause.Reaction other state addon entry d = absurd (other refl)
 told-other _ other state addon entry d = refl
 
 -- whatever state is told, it is the hint
-pub ticket-begins : (ts : List Told) (e : Environment) (n : ℕ) (r : Registration) (state : ℕ) → Kept (history ts) (view e) → IsHooked e
+pub ticket-begins : (ts : List PromiseFact) (e : Environment) (n : ℕ) (r : Registration) (state : ℕ) → IsHistoryOf (history ts) (view e) → IsHooked e
     → registration_at e.book n ≡ Some r → next_ticket e ≡ Some n → may_begin_in e.phase r.state ≡ true → state ≡ r.hint
     → Keeps ts (told_begun state (out.Begin r.cause r.addon r.entry (Some (ticket_duty n)))) (record (view e) { book = moved_at (begun_in e.phase) n e.book })
 ticket-begins ts e n r state k hooked there next may hint = by (reaction-or r.cause)
@@ -170,7 +170,7 @@ ticket-begins ts e n r state k hooked there next may hint = by (reaction-or r.ca
     by : (r.cause ≡ cause.Reaction) ⊎ (r.cause ≢ cause.Reaction)
         → Keeps ts (told_begun state (out.Begin r.cause r.addon r.entry (Some (ticket_duty n)))) (record (view e) { book = moved_at (begun_in e.phase) n e.book })
     by (inl why) =
-        let b : BeginsLowest e n r e.phase = begins-lowest e n r e.phase hooked there why next may in
+        let b : BeginsLowestDue e n r e.phase = begins-lowest e n r e.phase hooked there why next may in
         subst (λ c. Keeps ts (told_begun state (out.Begin c r.addon r.entry (Some (ticket_duty n)))) (record (view e) { book = moved_at (begun_in e.phase) n e.book }))
         (sym why)
         (subst (λ move. Keeps ts (told.Begins n state ∷ []) (record (view e) { book = moved_at move n e.book })) (sym b.move)

@@ -99,11 +99,11 @@ left-same c d b = left-kept (SameReactions b) b (λ t. end-same t b) c d (same-r
 
 -- VALUES
 -- each value that is there stays, and has the link that it had; and no other has one
-pub record KeepsLinks (old new : List Value) : Type 0 where
+pub record KeepsEachLink (old new : List Value) : Type 0 where
   pub stays : (n : ℕ) → is_some (value_at old n) ≡ true → is_some (value_at new n) ≡ true
   pub links : (n : ℕ) → link_of new n ≡ link_of old n
 
-pub same-links : (vs : List Value) → KeepsLinks vs vs
+pub same-links : (vs : List Value) → KeepsEachLink vs vs
 same-links vs = record { stays = λ n is. is; links = λ n. refl }
 
 -- new values have none
@@ -114,7 +114,7 @@ none-linked n ws all = by (found (λ (w : Value). w.number) n ws) refl
     by None is = refl
     by (Some w) is = found-All (λ (w : Value). w.number) (λ w. w.link ≡ None) n ws w all is
 
-pub more-links : (vs ws : List Value) → All (λ w. w.link ≡ None) ws → KeepsLinks vs (vs ++ ws)
+pub more-links : (vs ws : List Value) → All (λ w. w.link ≡ None) ws → KeepsEachLink vs (vs ++ ws)
 more-links vs ws all = record {
   stays = λ n is. ap is_some (found-append (λ (w : Value). w.number) n vs ws) ∙ some (value_at vs n) (value_at ws n) is;
   links = λ n. ap (option_and_then (λ (w : Value). w.link)) (found-append (λ (w : Value). w.number) n vs ws) ∙ by (value_at vs n) (value_at ws n) (none-linked n ws all);
@@ -147,7 +147,7 @@ pub changed-stays : (k : ℕ) (change : Value → Value) → ((v : Value) → (c
 changed-stays k change number vs n is = ap is_some (found-changed k change number vs n) ∙ some-map _ (value_at vs n) is
 
 pub changed-links : (k : ℕ) (change : Value → Value) → ((v : Value) → (change v).number ≡ v.number) → ((v : Value) → (change v).link ≡ v.link) → (vs : List Value)
-    → KeepsLinks vs (value_changed k change vs)
+    → KeepsEachLink vs (value_changed k change vs)
 changed-links k change number link vs = record {
   stays = changed-stays k change number vs;
   links = λ n. ap (option_and_then (λ (w : Value). w.link)) (found-changed k change number vs n) ∙ by (value_at vs n);

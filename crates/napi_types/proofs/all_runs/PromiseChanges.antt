@@ -10,17 +10,17 @@ use Rattle.napi_types.specs.parts.Book.{Registration, TicketState, Registered, D
 use Rattle.napi_types.specs.parts.Promises.{Promise, Deferred, Promises, promise_at, reactions_of, is_reaction_of, deferred_promise, promise_changed, with_settled, with_reaction, made_settled, reactions_settled}
 use Rattle.napi_types.specs.parts.Values.{value_at, link_of, value_changed, with_link}
 use Rattle.napi_types.specs.environment.Hooked.{is_from_finals_on}
-use Rattle.napi_types.specs.all_runs.SettledPromises.{Made, Settled, Added}
+use Rattle.napi_types.specs.all_runs.SettledPromises.{MadeDeferred, SettledDeferred, AddedReaction}
 use Rattle.napi_types.proofs.plain.Found.{found-map, found-number, found-All, apart-above, same-self, turned}
 use Rattle.napi_types.proofs.plain.Maps.{among-holds, has-left}
 use Rattle.napi_types.proofs.parts.Books.{settled-keeps}
 use Rattle.napi_types.proofs.parts.Moved.{registration_at-changed_where, cause_at-changed_where}
 use Rattle.napi_types.proofs.all_runs.PromiseBooks.{changed-stays, linked-own, linked-other}
 use Rattle.napi_types.proofs.all_runs.PromiseHistory.{History, settlement_by, state_by, IsFoundIn, unfound, has-of, settlement-own, settlement-other}
-use Rattle.napi_types.proofs.all_runs.PromiseStates.{View, waiting, Waits, IsTold, added_under, IsKnown, made_of, IsOpen, IsIssued, Kept, true-or-false, made-below}
+use Rattle.napi_types.proofs.all_runs.PromiseStates.{PromiseView, waiting, Waits, IsTold, added_under, IsKnown, made_of, IsOpen, IsIssued, IsHistoryOf, true-or-false, made-below}
 
 -- the reactions of a promise were added to it
-pub reaction-under : (h : History) (v : View) → Kept h v → (p t : ℕ) → is_reaction_of v.promises p t ≡ true → added_under h.added t ≡ Some p
+pub reaction-under : (h : History) (v : PromiseView) → IsHistoryOf h v → (p t : ℕ) → is_reaction_of v.promises p t ≡ true → added_under h.added t ≡ Some p
 reaction-under h v k p t is = by (promise_at v.promises p) refl is
   where
     by : (o : Option Promise) → promise_at v.promises p ≡ o → has_number t (unwrap_or (option_map (λ (r : Promise). r.reactions) o) []) ≡ true
@@ -91,14 +91,14 @@ settled-cause state r = by (is_registered r.state)
     by true = refl
     by false = refl
 
-module _ (h : History) (v : View) (n p x j : ℕ) (k : Kept h v) (given : deferred_promise v.promises n ≡ Some p) (early : is_from_finals_on v.phase ≡ false) where
-  abbrev s : Settled
+module _ (h : History) (v : PromiseView) (n p x j : ℕ) (k : IsHistoryOf h v) (given : deferred_promise v.promises n ≡ Some p) (early : is_from_finals_on v.phase ≡ false) where
+  abbrev s : SettledDeferred
   s = record { deferred = n; state = suc j; value = x }
 
   abbrev settled_now : History
   settled_now = record h { settled = h.settled ++ s ∷ [] }
 
-  abbrev settled_then : View
+  abbrev settled_then : PromiseView
   settled_then = record v {
     values = value_changed p (with_link x) v.values;
     promises = with_settled n p (suc j) v.promises;
@@ -118,28 +118,28 @@ module _ (h : History) (v : View) (n p x j : ℕ) (k : Kept h v) (given : deferr
           subst (IsOpen h) (same d (found-number (λ (d : Deferred). d.number) n v.promises.deferreds d there) (same_Some d.promise p is))
           (found-All (λ (d : Deferred). d.number) (IsOpen h) n v.promises.deferreds d k.deferreds there)
 
-  pub was-made : has (λ (m : Made). m.deferred) n h.made ≡ true
-  was-made = has-of (λ (m : Made). m.deferred) n h.made (made_of n p) open-at.made
+  pub was-made : has (λ (m : MadeDeferred). m.deferred) n h.made ≡ true
+  was-made = has-of (λ (m : MadeDeferred). m.deferred) n h.made (made_of n p) open-at.made
 
-  pub was-unsettled : has (λ (s : Settled). s.deferred) n h.settled ≡ false
+  pub was-unsettled : has (λ (s : SettledDeferred). s.deferred) n h.settled ≡ false
   was-unsettled = open-at.unsettled
 
   its : IsFoundIn h.made (made_of n p)
-  its = found-All (λ (m : Made). m.deferred) (IsFoundIn h.made) n h.made (made_of n p) k.apart open-at.made
+  its = found-All (λ (m : MadeDeferred). m.deferred) (IsFoundIn h.made) n h.made (made_of n p) k.apart open-at.made
 
   before : settlement_by h.made h.settled p ≡ None
-  before = ap (option_and_then (λ (m : Made). found (λ (s : Settled). s.deferred) m.deferred h.settled)) its.promise
-      ∙ unfound (λ (s : Settled). s.deferred) n h.settled open-at.unsettled
+  before = ap (option_and_then (λ (m : MadeDeferred). found (λ (s : SettledDeferred). s.deferred) m.deferred h.settled)) its.promise
+      ∙ unfound (λ (s : SettledDeferred). s.deferred) n h.settled open-at.unsettled
 
   own : (q : ℕ) → (q == p) ≡ true → settlement_by h.made settled_now.settled q ≡ Some s
   own q is = ap (settlement_by h.made settled_now.settled) (eqb-true q p is) ∙ settlement-own h.made h.settled (made_of n p) s its refl open-at.unsettled
 
-  other : (q : ℕ) → has (λ (m : Made). m.promise) q h.made ≡ true → (q == p) ≡ false
+  other : (q : ℕ) → has (λ (m : MadeDeferred). m.promise) q h.made ≡ true → (q == p) ≡ false
       → settlement_by h.made settled_now.settled q ≡ settlement_by h.made h.settled q
   other q made apart = settlement-other h.made h.settled (made_of n p) s q k.apart its refl made apart
 
-  abbrev of_state : Option Settled → ℕ
-  of_state o = unwrap_or (option_map (λ (s : Settled). s.state) o) 0
+  abbrev of_state : Option SettledDeferred → ℕ
+  of_state o = unwrap_or (option_map (λ (s : SettledDeferred). s.state) o) 0
 
   settled-known : (r : Promise) → IsKnown h v.values r → (b : Bool) → (r.value == p) ≡ b
       → IsKnown settled_now settled_then.values (cond b (record r { state = suc j }) r)
@@ -150,19 +150,19 @@ module _ (h : History) (v : View) (n p x j : ℕ) (k : Kept h v) (given : deferr
         made = it.made;
         state = sym (ap of_state (own r.value is));
         value = ap (link_of settled_then.values) same ∙ linked-own p x v.values (ap (λ m. is_some (value_at v.values m)) (sym same) ∙ it.there)
-            ∙ sym (ap (option_map (λ (s : Settled). s.value)) (own r.value is));
+            ∙ sym (ap (option_map (λ (s : SettledDeferred). s.value)) (own r.value is));
         reactions = it.reactions;
       }
   settled-known r it false is = record {
     there = changed-stays p (with_link x) (λ v. refl) v.values r.value it.there;
     made = it.made;
     state = it.state ∙ sym (ap of_state (other r.value it.made is));
-    value = linked-other p x v.values r.value is ∙ it.value ∙ sym (ap (option_map (λ (s : Settled). s.value)) (other r.value it.made is));
+    value = linked-other p x v.values r.value is ∙ it.value ∙ sym (ap (option_map (λ (s : SettledDeferred). s.value)) (other r.value it.made is));
     reactions = it.reactions;
   }
 
   -- what is under the ticket of a reaction then
-  abbrev after_settling : Added → Registration → Registration
+  abbrev after_settling : AddedReaction → Registration → Registration
   after_settling a r = cond (has_number a.ticket (reactions_of v.promises p)) (made_settled (suc j) r) r
 
   same-cause : (b : Bool) (r : Registration) → (cond b (made_settled (suc j) r) r).cause ≡ r.cause
@@ -174,7 +174,7 @@ module _ (h : History) (v : View) (n p x j : ℕ) (k : Kept h v) (given : deferr
   same-owed false r = refl
 
   -- one of this promise falls due
-  falls-due : (a : Added) (r : Registration) (b : Bool) → b ≡ true → r.state ≡ Registered
+  falls-due : (a : AddedReaction) (r : Registration) (b : Bool) → b ≡ true → r.state ≡ Registered
       → (cond b (made_settled (suc j) r) r).hint ≡ suc j × (cond b (made_settled (suc j) r) r).state ≡ Due
   falls-due a r true is registered = by r.state registered
     where
@@ -187,7 +187,7 @@ module _ (h : History) (v : View) (n p x j : ℕ) (k : Kept h v) (given : deferr
       by Withdrawn is = cc
   falls-due a r false is registered = let no : ⊥ = cc in absurd no
 
-  settled-waits : (a : Added) (it : IsTold h (is_from_finals_on v.phase) v.promises v.book a) → is_owed it.registration.state ≡ true → (b : Bool) → (a.promise == p) ≡ b
+  settled-waits : (a : AddedReaction) (it : IsTold h (is_from_finals_on v.phase) v.promises v.book a) → is_owed it.registration.state ≡ true → (b : Bool) → (a.promise == p) ≡ b
       → Waits (is_from_finals_on v.phase) (state_by h.made settled_now.settled a.promise) settled_then.promises a (after_settling a it.registration)
   settled-waits a it is true same =
       let w : Waits (is_from_finals_on v.phase) (state_by h.made h.settled a.promise) v.promises a it.registration = it.waits is in
@@ -214,10 +214,10 @@ module _ (h : History) (v : View) (n p x j : ℕ) (k : Kept h v) (given : deferr
       by : (b : Bool) → has_number a.ticket (reactions_of v.promises p) ≡ b → cond b (made_settled (suc j) it.registration) it.registration ≡ it.registration
       by false is = refl
       by true is =
-          let one : a.promise ≡ p = same_Some a.promise p (sym (ap (option_map (λ (b : Added). b.promise)) it.under) ∙ reaction-under h v k p a.ticket is) in
+          let one : a.promise ≡ p = same_Some a.promise p (sym (ap (option_map (λ (b : AddedReaction). b.promise)) it.under) ∙ reaction-under h v k p a.ticket is) in
           absurd (true-or-false (a.promise == p) (ap (λ q. q == p) one ∙ same-self p) apart)
 
-  settled-told : (a : Added) → IsTold h (is_from_finals_on v.phase) v.promises v.book a → IsTold settled_now (is_from_finals_on v.phase) settled_then.promises settled_then.book a
+  settled-told : (a : AddedReaction) → IsTold h (is_from_finals_on v.phase) v.promises v.book a → IsTold settled_now (is_from_finals_on v.phase) settled_then.promises settled_then.book a
   settled-told a it =
       let b : Bool = has_number a.ticket (reactions_of v.promises p) in
       record {
@@ -234,23 +234,23 @@ module _ (h : History) (v : View) (n p x j : ℕ) (k : Kept h v) (given : deferr
   settled-open : (d : Deferred) → not (d.number == n) ≡ true → IsOpen h d → IsOpen settled_now d
   settled-open d passes it = record {
     made = it.made;
-    unsettled = list_any-append (λ (s : Settled). s.deferred == d.number) h.settled (s ∷ [])
-        ∙ or_from (has (λ (s : Settled). s.deferred) d.number h.settled) _ it.unsettled (or_from (n == d.number) false (turned n d.number ∙ by (d.number == n) passes) refl);
+    unsettled = list_any-append (λ (s : SettledDeferred). s.deferred == d.number) h.settled (s ∷ [])
+        ∙ or_from (has (λ (s : SettledDeferred). s.deferred) d.number h.settled) _ it.unsettled (or_from (n == d.number) false (turned n d.number ∙ by (d.number == n) passes) refl);
   }
     where
       by : (b : Bool) → not b ≡ true → b ≡ false
       by true is = cc
       by false is = refl
 
-  pub kept-settles : Kept settled_now settled_then
+  pub kept-settles : IsHistoryOf settled_now settled_then
   kept-settles = record {
     below = k.below;
     issued = k.issued;
-    settled = All-push (λ (s : Settled). IsIssued v.promises s.deferred) h.settled s k.settled
-        (found-All (λ (m : Made). m.deferred) (λ m. IsIssued v.promises m.deferred) n h.made (made_of n p) k.issued open-at.made);
+    settled = All-push (λ (s : SettledDeferred). IsIssued v.promises s.deferred) h.settled s k.settled
+        (found-All (λ (m : MadeDeferred). m.deferred) (λ m. IsIssued v.promises m.deferred) n h.made (made_of n p) k.issued open-at.made);
     apart = k.apart;
     unlinked = λ m above. linked-other p x v.values m
-        (apart-above p m (omega (arith, above, made-below h v k p (has-of (λ (m : Made). m.promise) p h.made (made_of n p) its.promise)))) ∙ k.unlinked m above;
+        (apart-above p m (omega (arith, above, made-below h v k p (has-of (λ (m : MadeDeferred). m.promise) p h.made (made_of n p) its.promise)))) ∙ k.unlinked m above;
     deferreds = λ i d inside. settled-open _ (filter_passes (λ (d : Deferred). not (d.number == n)) v.promises.deferreds i d inside)
         (All-filter (λ (d : Deferred). not (d.number == n)) (IsOpen h) v.promises.deferreds k.deferreds i d inside);
     known = All-map (IsKnown settled_now settled_then.values) (λ (r : Promise). cond (r.value == p) (record r { state = suc j }) r) v.promises.promises

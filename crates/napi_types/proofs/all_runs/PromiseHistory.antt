@@ -8,26 +8,26 @@ use Rattle.std.proofs.lemmas.List.Folds.{list_any-append}
 use Rattle.std.proofs.lemmas.Option.{same_Some}
 use Rattle.napi_types.specs.plain.Lists.{found, has}
 use Rattle.napi_types.specs.all_runs.SettledPromises as told
-use Rattle.napi_types.specs.all_runs.SettledPromises.{Told, Made, Settled, Added, made_by, settled_by, added_by, begun_by, is_of_finals, all_made, all_settled, all_added, all_begun, finals_came}
+use Rattle.napi_types.specs.all_runs.SettledPromises.{PromiseFact, MadeDeferred, SettledDeferred, AddedReaction, made_in_fact, settled_in_fact, added_in_fact, begun_in_fact, is_of_finals, all_made, all_settled, all_added, all_begun, finals_came}
 use Rattle.napi_types.proofs.plain.Found.{found-append, found-number, found-All, has-found, same-self}
 use Rattle.napi_types.proofs.plain.Lists.{option_or-none}
 
 -- what was told so far
 pub record History : Type 0 where
-  pub made : List Made
-  pub settled : List Settled
-  pub added : List Added
+  pub made : List MadeDeferred
+  pub settled : List SettledDeferred
+  pub added : List AddedReaction
   pub begun : List ℕ
   pub finals : Bool
 
-abbrev pub history : List Told → History
+abbrev pub history : List PromiseFact → History
 history ts = record { made = all_made ts; settled = all_settled ts; added = all_added ts; begun = all_begun ts; finals = finals_came ts }
 
 -- ONE THING MORE
-abbrev of_lists : List Made → List Settled → List Added → List ℕ → Bool → History
+abbrev of_lists : List MadeDeferred → List SettledDeferred → List AddedReaction → List ℕ → Bool → History
 of_lists m s a k f = record { made = m; settled = s; added = a; begun = k; finals = f }
 
-same-history : (m n : List Made) (s u : List Settled) (a b : List Added) (k l : List ℕ) (f g : Bool) → m ≡ n → s ≡ u → a ≡ b → k ≡ l → f ≡ g
+same-history : (m n : List MadeDeferred) (s u : List SettledDeferred) (a b : List AddedReaction) (k l : List ℕ) (f g : Bool) → m ≡ n → s ≡ u → a ≡ b → k ≡ l → f ≡ g
     → of_lists m s a k f ≡ of_lists n u b l g
 same-history m n s u a b k l f g one two three four five = rw (one, two, three, four, five) refl
 
@@ -39,47 +39,47 @@ or-some : (b : Bool) → (b || true) ≡ true
 or-some true = refl
 or-some false = refl
 
-module _ (ts : List Told) where
-  more : {A : Type 0} (f : Told → List A) (x : Told) → flat_map f (ts ++ x ∷ []) ≡ flat_map f ts ++ f x
+module _ (ts : List PromiseFact) where
+  more : {A : Type 0} (f : PromiseFact → List A) (x : PromiseFact) → flat_map f (ts ++ x ∷ []) ≡ flat_map f ts ++ f x
   more f x = sym (flat_map_more f [] ts x)
 
-  none : {A : Type 0} (f : Told → List A) (x : Told) → f x ≡ [] → flat_map f (ts ++ x ∷ []) ≡ flat_map f ts
+  none : {A : Type 0} (f : PromiseFact → List A) (x : PromiseFact) → f x ≡ [] → flat_map f (ts ++ x ∷ []) ≡ flat_map f ts
   none f x is = more f x ∙ ap (λ ys. flat_map f ts ++ ys) is ∙ append-nil (flat_map f ts)
 
-  no-finals : (x : Told) → is_of_finals x ≡ false → finals_came (ts ++ x ∷ []) ≡ finals_came ts
+  no-finals : (x : PromiseFact) → is_of_finals x ≡ false → finals_came (ts ++ x ∷ []) ≡ finals_came ts
   no-finals x is = list_any-append is_of_finals ts (x ∷ []) ∙ ap (λ b. finals_came ts || (b || false)) is ∙ or-none (finals_came ts)
 
   pub history-makes : (d p : ℕ) → history (ts ++ told.Makes d p ∷ [])
       ≡ record (history ts) { made = all_made ts ++ record { deferred = d; promise = p } ∷ [] }
   history-makes d p =
-      same-history _ _ _ _ _ _ _ _ _ _ (more made_by (told.Makes d p)) (none settled_by (told.Makes d p) refl) (none added_by (told.Makes d p) refl)
-      (none begun_by (told.Makes d p) refl) (no-finals (told.Makes d p) refl)
+      same-history _ _ _ _ _ _ _ _ _ _ (more made_in_fact (told.Makes d p)) (none settled_in_fact (told.Makes d p) refl) (none added_in_fact (told.Makes d p) refl)
+      (none begun_in_fact (told.Makes d p) refl) (no-finals (told.Makes d p) refl)
 
   pub history-settles : (d state v : ℕ) → history (ts ++ told.Settles d state v ∷ [])
       ≡ record (history ts) { settled = all_settled ts ++ record { deferred = d; state = state; value = v } ∷ [] }
   history-settles d state v =
-      same-history _ _ _ _ _ _ _ _ _ _ (none made_by (told.Settles d state v) refl) (more settled_by (told.Settles d state v))
-      (none added_by (told.Settles d state v) refl) (none begun_by (told.Settles d state v) refl) (no-finals (told.Settles d state v) refl)
+      same-history _ _ _ _ _ _ _ _ _ _ (none made_in_fact (told.Settles d state v) refl) (more settled_in_fact (told.Settles d state v))
+      (none added_in_fact (told.Settles d state v) refl) (none begun_in_fact (told.Settles d state v) refl) (no-finals (told.Settles d state v) refl)
 
   pub history-adds : (p t : ℕ) → history (ts ++ told.Adds p t ∷ []) ≡ record (history ts) { added = all_added ts ++ record { ticket = t; promise = p } ∷ [] }
   history-adds p t =
-      same-history _ _ _ _ _ _ _ _ _ _ (none made_by (told.Adds p t) refl) (none settled_by (told.Adds p t) refl) (more added_by (told.Adds p t))
-      (none begun_by (told.Adds p t) refl) (no-finals (told.Adds p t) refl)
+      same-history _ _ _ _ _ _ _ _ _ _ (none made_in_fact (told.Adds p t) refl) (none settled_in_fact (told.Adds p t) refl) (more added_in_fact (told.Adds p t))
+      (none begun_in_fact (told.Adds p t) refl) (no-finals (told.Adds p t) refl)
 
   pub history-finals : history (ts ++ told.FinalsCome ∷ []) ≡ record (history ts) { finals = true }
   history-finals =
-      same-history _ _ _ _ _ _ _ _ _ _ (none made_by told.FinalsCome refl) (none settled_by told.FinalsCome refl) (none added_by told.FinalsCome refl)
-      (none begun_by told.FinalsCome refl) (list_any-append is_of_finals ts (told.FinalsCome ∷ []) ∙ or-some (finals_came ts))
+      same-history _ _ _ _ _ _ _ _ _ _ (none made_in_fact told.FinalsCome refl) (none settled_in_fact told.FinalsCome refl) (none added_in_fact told.FinalsCome refl)
+      (none begun_in_fact told.FinalsCome refl) (list_any-append is_of_finals ts (told.FinalsCome ∷ []) ∙ or-some (finals_came ts))
 
   pub history-begins : (t state : ℕ) → history (ts ++ told.Begins t state ∷ []) ≡ record (history ts) { begun = all_begun ts ++ t ∷ [] }
   history-begins t state =
-      same-history _ _ _ _ _ _ _ _ _ _ (none made_by (told.Begins t state) refl) (none settled_by (told.Begins t state) refl)
-      (none added_by (told.Begins t state) refl) (more begun_by (told.Begins t state)) (no-finals (told.Begins t state) refl)
+      same-history _ _ _ _ _ _ _ _ _ _ (none made_in_fact (told.Begins t state) refl) (none settled_in_fact (told.Begins t state) refl)
+      (none added_in_fact (told.Begins t state) refl) (more begun_in_fact (told.Begins t state)) (no-finals (told.Begins t state) refl)
 
   pub history-tells : (t v : ℕ) → history (ts ++ told.Tells t v ∷ []) ≡ history ts
   history-tells t v =
-      same-history _ _ _ _ _ _ _ _ _ _ (none made_by (told.Tells t v) refl) (none settled_by (told.Tells t v) refl)
-      (none added_by (told.Tells t v) refl) (none begun_by (told.Tells t v) refl) (no-finals (told.Tells t v) refl)
+      same-history _ _ _ _ _ _ _ _ _ _ (none made_in_fact (told.Tells t v) refl) (none settled_in_fact (told.Tells t v) refl)
+      (none added_in_fact (told.Tells t v) refl) (none begun_in_fact (told.Tells t v) refl) (no-finals (told.Tells t v) refl)
 
 -- WHAT IS FOUND
 some-of : {A : Type 0} (o : Option A) → is_some o ≡ true → (x : A) × (o ≡ Some x)
@@ -117,51 +117,51 @@ module _ {A : Type 0} (number : A → ℕ) where
       found-append number n xs (x ∷ []) ∙ ap (λ b. option_or (found number n xs) (cond b (Some x) None)) apart ∙ option_or-none (found number n xs)
 
 -- HOW A PROMISE WAS SETTLED
-abbrev pub settlement_by : List Made → List Settled → ℕ → Option Settled
-settlement_by ms ss p = option_and_then (λ (m : Made). found (λ (s : Settled). s.deferred) m.deferred ss) (found (λ (m : Made). m.promise) p ms)
+abbrev pub settlement_by : List MadeDeferred → List SettledDeferred → ℕ → Option SettledDeferred
+settlement_by ms ss p = option_and_then (λ (m : MadeDeferred). found (λ (s : SettledDeferred). s.deferred) m.deferred ss) (found (λ (m : MadeDeferred). m.promise) p ms)
 
-abbrev pub state_by : List Made → List Settled → ℕ → ℕ
-state_by ms ss p = unwrap_or (option_map (λ (s : Settled). s.state) (settlement_by ms ss p)) 0
+abbrev pub state_by : List MadeDeferred → List SettledDeferred → ℕ → ℕ
+state_by ms ss p = unwrap_or (option_map (λ (s : SettledDeferred). s.state) (settlement_by ms ss p)) 0
 
-abbrev pub value_by : List Made → List Settled → ℕ → Option ℕ
-value_by ms ss p = option_map (λ (s : Settled). s.value) (settlement_by ms ss p)
+abbrev pub value_by : List MadeDeferred → List SettledDeferred → ℕ → Option ℕ
+value_by ms ss p = option_map (λ (s : SettledDeferred). s.value) (settlement_by ms ss p)
 
 -- each that was made is found by its deferred, and by its promise
-pub record IsFoundIn (ms : List Made) (m : Made) : Type 0 where
-  pub deferred : found (λ (m : Made). m.deferred) m.deferred ms ≡ Some m
-  pub promise : found (λ (m : Made). m.promise) m.promise ms ≡ Some m
+pub record IsFoundIn (ms : List MadeDeferred) (m : MadeDeferred) : Type 0 where
+  pub deferred : found (λ (m : MadeDeferred). m.deferred) m.deferred ms ≡ Some m
+  pub promise : found (λ (m : MadeDeferred). m.promise) m.promise ms ≡ Some m
 
 -- the tests of a promise that was made
-pub settlement-more : (ms ns : List Made) (ss : List Settled) (p : ℕ) → has (λ (m : Made). m.promise) p ms ≡ true
+pub settlement-more : (ms ns : List MadeDeferred) (ss : List SettledDeferred) (p : ℕ) → has (λ (m : MadeDeferred). m.promise) p ms ≡ true
     → settlement_by (ms ++ ns) ss p ≡ settlement_by ms ss p
 settlement-more ms ns ss p is =
-    let there = found-of (λ (m : Made). m.promise) p ms is in
-    ap (option_and_then (λ (m : Made). found (λ (s : Settled). s.deferred) m.deferred ss))
-    (found-still (λ (m : Made). m.promise) p ms ns there.0 there.1 ∙ sym there.1)
+    let there = found-of (λ (m : MadeDeferred). m.promise) p ms is in
+    ap (option_and_then (λ (m : MadeDeferred). found (λ (s : SettledDeferred). s.deferred) m.deferred ss))
+    (found-still (λ (m : MadeDeferred). m.promise) p ms ns there.0 there.1 ∙ sym there.1)
 
 -- a deferred more is settled: that of the promise, ..
-pub settlement-own : (ms : List Made) (ss : List Settled) (m : Made) (s : Settled) → IsFoundIn ms m → s.deferred ≡ m.deferred
-    → has (λ (s : Settled). s.deferred) m.deferred ss ≡ false → settlement_by ms (ss ++ s ∷ []) m.promise ≡ Some s
+pub settlement-own : (ms : List MadeDeferred) (ss : List SettledDeferred) (m : MadeDeferred) (s : SettledDeferred) → IsFoundIn ms m → s.deferred ≡ m.deferred
+    → has (λ (s : SettledDeferred). s.deferred) m.deferred ss ≡ false → settlement_by ms (ss ++ s ∷ []) m.promise ≡ Some s
 settlement-own ms ss m s there same new =
-    ap (option_and_then (λ (m : Made). found (λ (s : Settled). s.deferred) m.deferred (ss ++ s ∷ []))) there.promise
-    ∙ ap (λ n. found (λ (s : Settled). s.deferred) n (ss ++ s ∷ [])) (sym same)
-    ∙ found-push (λ (s : Settled). s.deferred) ss s (ap (λ n. has (λ (s : Settled). s.deferred) n ss) same ∙ new)
+    ap (option_and_then (λ (m : MadeDeferred). found (λ (s : SettledDeferred). s.deferred) m.deferred (ss ++ s ∷ []))) there.promise
+    ∙ ap (λ n. found (λ (s : SettledDeferred). s.deferred) n (ss ++ s ∷ [])) (sym same)
+    ∙ found-push (λ (s : SettledDeferred). s.deferred) ss s (ap (λ n. has (λ (s : SettledDeferred). s.deferred) n ss) same ∙ new)
 
 -- .. or another one
-pub settlement-other : (ms : List Made) (ss : List Settled) (m : Made) (s : Settled) (q : ℕ) → All (IsFoundIn ms) ms → IsFoundIn ms m → s.deferred ≡ m.deferred
-    → has (λ (m : Made). m.promise) q ms ≡ true → (q == m.promise) ≡ false → settlement_by ms (ss ++ s ∷ []) q ≡ settlement_by ms ss q
+pub settlement-other : (ms : List MadeDeferred) (ss : List SettledDeferred) (m : MadeDeferred) (s : SettledDeferred) (q : ℕ) → All (IsFoundIn ms) ms → IsFoundIn ms m → s.deferred ≡ m.deferred
+    → has (λ (m : MadeDeferred). m.promise) q ms ≡ true → (q == m.promise) ≡ false → settlement_by ms (ss ++ s ∷ []) q ≡ settlement_by ms ss q
 settlement-other ms ss m s q all there same made apart =
-    let it = found-of (λ (m : Made). m.promise) q ms made in
-    let n : Made = it.0 in
-    let its : IsFoundIn ms n = found-All (λ (m : Made). m.promise) (IsFoundIn ms) q ms n all it.1 in
-    ap (option_and_then (λ (m : Made). found (λ (s : Settled). s.deferred) m.deferred (ss ++ s ∷ []))) it.1
-    ∙ found-apart (λ (s : Settled). s.deferred) n.deferred ss s (by n its (found-number (λ (m : Made). m.promise) q ms n it.1) (s.deferred == n.deferred) refl)
-    ∙ sym (ap (option_and_then (λ (m : Made). found (λ (s : Settled). s.deferred) m.deferred ss)) it.1)
+    let it = found-of (λ (m : MadeDeferred). m.promise) q ms made in
+    let n : MadeDeferred = it.0 in
+    let its : IsFoundIn ms n = found-All (λ (m : MadeDeferred). m.promise) (IsFoundIn ms) q ms n all it.1 in
+    ap (option_and_then (λ (m : MadeDeferred). found (λ (s : SettledDeferred). s.deferred) m.deferred (ss ++ s ∷ []))) it.1
+    ∙ found-apart (λ (s : SettledDeferred). s.deferred) n.deferred ss s (by n its (found-number (λ (m : MadeDeferred). m.promise) q ms n it.1) (s.deferred == n.deferred) refl)
+    ∙ sym (ap (option_and_then (λ (m : MadeDeferred). found (λ (s : SettledDeferred). s.deferred) m.deferred ss)) it.1)
   where
-    by : (n : Made) → IsFoundIn ms n → n.promise ≡ q → (b : Bool) → (s.deferred == n.deferred) ≡ b → (s.deferred == n.deferred) ≡ false
+    by : (n : MadeDeferred) → IsFoundIn ms n → n.promise ≡ q → (b : Bool) → (s.deferred == n.deferred) ≡ b → (s.deferred == n.deferred) ≡ false
     by n its is false tells = tells
     by n its is true tells =
         let equal : m.deferred ≡ n.deferred = sym same ∙ eqb-true s.deferred n.deferred tells in
-        let one : n ≡ m = same_Some n m (sym its.deferred ∙ ap (λ k. found (λ (m : Made). m.deferred) k ms) (sym equal) ∙ there.deferred) in
-        let no : true ≡ false = sym (same-self q) ∙ ap (λ k. q == k) (sym is ∙ ap (λ (m : Made). m.promise) one) ∙ apart in
+        let one : n ≡ m = same_Some n m (sym its.deferred ∙ ap (λ k. found (λ (m : MadeDeferred). m.deferred) k ms) (sym equal) ∙ there.deferred) in
+        let no : true ≡ false = sym (same-self q) ∙ ap (λ k. q == k) (sym is ∙ ap (λ (m : MadeDeferred). m.promise) one) ∙ apart in
         absurd (let z : ⊥ = cc in z)

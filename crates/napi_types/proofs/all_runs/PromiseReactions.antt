@@ -17,7 +17,7 @@ use Rattle.napi_types.specs.parts.Values.{Value, value_at, link_of, those_of}
 use Rattle.napi_types.specs.environment.Collection.{is_freed}
 use Rattle.napi_types.specs.environment.Hooked.{is_from_finals_on}
 use Rattle.napi_types.specs.environment.PromiseCalls.{reaction_state}
-use Rattle.napi_types.specs.all_runs.SettledPromises.{Made, Settled, Added}
+use Rattle.napi_types.specs.all_runs.SettledPromises.{MadeDeferred, SettledDeferred, AddedReaction}
 use Rattle.napi_types.proofs.plain.Found.{found-map, found-filter, found-number, found-All, apart-below, same-self, turned}
 use Rattle.napi_types.proofs.plain.Maps.{among-holds}
 use Rattle.napi_types.proofs.parts.Books.{due-keeps}
@@ -26,22 +26,22 @@ use Rattle.napi_types.proofs.parts.Reaching.{has_number-filter}
 use Rattle.napi_types.proofs.environment.HookedBooks.{rise-push}
 use Rattle.napi_types.proofs.all_runs.PromiseBooks.{SameReactions, those-same, those-none}
 use Rattle.napi_types.proofs.all_runs.PromiseHistory.{History, state_by, found-still, found-push}
-use Rattle.napi_types.proofs.all_runs.PromiseStates.{View, waiting, Waits, IsTold, added_under, IsKnown, IsOpen, Kept, has-none, true-or-false, under-still, told-book}
+use Rattle.napi_types.proofs.all_runs.PromiseStates.{PromiseView, waiting, Waits, IsTold, added_under, IsKnown, IsOpen, IsHistoryOf, has-none, true-or-false, under-still, told-book}
 use Rattle.napi_types.proofs.all_runs.PromiseChanges.{more-reactions, new-reaction}
 
 -- A REACTION IS ADDED
-module _ (h : History) (v : View) (x : ℕ) (q : Promise) (r : Registration) (k : Kept h v) (at : promise_at v.promises x ≡ Some q)
+module _ (h : History) (v : PromiseView) (x : ℕ) (q : Promise) (r : Registration) (k : IsHistoryOf h v) (at : promise_at v.promises x ≡ Some q)
     (early : is_from_finals_on v.phase ≡ false) (why : r.cause ≡ cause.Reaction) (hint : r.hint ≡ q.state) (far : r.state ≡ reaction_state q.state) where
   abbrev t : ℕ
   t = new_ticket v.book
 
-  abbrev a : Added
+  abbrev a : AddedReaction
   a = record { ticket = t; promise = x }
 
   abbrev added_now : History
   added_now = record h { added = h.added ++ a ∷ [] }
 
-  abbrev added_then : View
+  abbrev added_then : PromiseView
   added_then = record v { promises = with_reaction x t v.promises; book = with_registration r v.book }
 
   its : IsKnown h v.values q
@@ -50,39 +50,39 @@ module _ (h : History) (v : View) (x : ℕ) (q : Promise) (r : Registration) (k 
   same : q.value ≡ x
   same = found-number (λ (r : Promise). r.value) x v.promises.promises q at
 
-  pub promise-made : has (λ (m : Made). m.promise) x h.made ≡ true
-  promise-made = ap (λ p. has (λ (m : Made). m.promise) p h.made) (sym same) ∙ its.made
+  pub promise-made : has (λ (m : MadeDeferred). m.promise) x h.made ≡ true
+  promise-made = ap (λ p. has (λ (m : MadeDeferred). m.promise) p h.made) (sym same) ∙ its.made
 
-  below : All (λ (b : Added). b.ticket < t) h.added
-  below = All-weaker (IsTold h (is_from_finals_on v.phase) v.promises v.book) (λ (b : Added). b.ticket < t)
+  below : All (λ (b : AddedReaction). b.ticket < t) h.added
+  below = All-weaker (IsTold h (is_from_finals_on v.phase) v.promises v.book) (λ (b : AddedReaction). b.ticket < t)
       (λ b it. registration-within v.book b.ticket it.registration it.there) h.added k.told
 
-  pub ticket-new : has (λ (b : Added). b.ticket) t h.added ≡ false
-  ticket-new = has-none (λ (b : Added). b.ticket) t h.added
-      (All-weaker (λ (b : Added). b.ticket < t) (λ b. (b.ticket == t) ≡ false) (λ b is. apart-below b.ticket t is) h.added below)
+  pub ticket-new : has (λ (b : AddedReaction). b.ticket) t h.added ≡ false
+  ticket-new = has-none (λ (b : AddedReaction). b.ticket) t h.added
+      (All-weaker (λ (b : AddedReaction). b.ticket < t) (λ b. (b.ticket == t) ≡ false) (λ b is. apart-below b.ticket t is) h.added below)
 
   unbegun : has_number t h.begun ≡ false
   unbegun = by (has_number t h.begun) refl
     where
       by : (b : Bool) → has_number t h.begun ≡ b → b ≡ false
       by false is = refl
-      by true is = absurd (true-or-false _ (among-holds (λ m. has (λ (b : Added). b.ticket) m h.added ≡ true) h.begun t k.begun is) ticket-new)
+      by true is = absurd (true-or-false _ (among-holds (λ m. has (λ (b : AddedReaction). b.ticket) m h.added ≡ true) h.begun t k.begun is) ticket-new)
 
-  more-added : (m : ℕ) → has (λ (b : Added). b.ticket) m h.added ≡ true → has (λ (b : Added). b.ticket) m added_now.added ≡ true
-  more-added m is = list_any-append (λ (b : Added). b.ticket == m) h.added (a ∷ []) ∙ or_left (has (λ (b : Added). b.ticket) m h.added) _ is
+  more-added : (m : ℕ) → has (λ (b : AddedReaction). b.ticket) m h.added ≡ true → has (λ (b : AddedReaction). b.ticket) m added_now.added ≡ true
+  more-added m is = list_any-append (λ (b : AddedReaction). b.ticket == m) h.added (a ∷ []) ∙ or_left (has (λ (b : AddedReaction). b.ticket) m h.added) _ is
 
   added-known : (r : Promise) → IsKnown h v.values r → (b : Bool) → (r.value == x) ≡ b
       → IsKnown added_now v.values (cond b (record r { reactions = r.reactions ++ t ∷ [] }) r)
   added-known r it b is = record {
     there = ap (λ n. is_some (value_at v.values n)) (value b) ∙ it.there;
-    made = ap (λ n. has (λ (m : Made). m.promise) n h.made) (value b) ∙ it.made;
+    made = ap (λ n. has (λ (m : MadeDeferred). m.promise) n h.made) (value b) ∙ it.made;
     state = state b ∙ it.state ∙ sym (ap (state_by h.made h.settled) (value b));
     value = ap (link_of v.values) (value b) ∙ it.value ∙ sym (ap (λ n. value_of n) (value b));
     reactions = reactions b is;
   }
     where
       value_of : ℕ → Option ℕ
-      value_of n = option_map (λ (s : Settled). s.value) (option_and_then (λ (m : Made). found (λ (s : Settled). s.deferred) m.deferred h.settled) (found (λ (m : Made). m.promise) n h.made))
+      value_of n = option_map (λ (s : SettledDeferred). s.value) (option_and_then (λ (m : MadeDeferred). found (λ (s : SettledDeferred). s.deferred) m.deferred h.settled) (found (λ (m : MadeDeferred). m.promise) n h.made))
 
       value : (b : Bool) → (cond b (record r { reactions = r.reactions ++ t ∷ [] }) r).value ≡ r.value
       value true = refl
@@ -100,13 +100,13 @@ module _ (h : History) (v : View) (x : ℕ) (q : Promise) (r : Registration) (k 
           → All (λ m. added_under added_now.added m ≡ Some (cond b (record r { reactions = r.reactions ++ t ∷ [] }) r).value)
           (cond b (record r { reactions = r.reactions ++ t ∷ [] }) r).reactions
       reactions true is = All-push (λ m. added_under added_now.added m ≡ Some r.value) r.reactions t old
-          (ap (option_map (λ (b : Added). b.promise)) (found-push (λ (b : Added). b.ticket) h.added a ticket-new) ∙ ap Some (sym (eqb-true r.value x is)))
+          (ap (option_map (λ (b : AddedReaction). b.promise)) (found-push (λ (b : AddedReaction). b.ticket) h.added a ticket-new) ∙ ap Some (sym (eqb-true r.value x is)))
       reactions false is = old
 
-  added-told : (b : Added) → IsTold h (is_from_finals_on v.phase) v.promises v.book b
+  added-told : (b : AddedReaction) → IsTold h (is_from_finals_on v.phase) v.promises v.book b
       → IsTold added_now (is_from_finals_on v.phase) added_then.promises added_then.book b
   added-told b it = record {
-    under = found-still (λ (b : Added). b.ticket) b.ticket h.added (a ∷ []) b it.under;
+    under = found-still (λ (b : AddedReaction). b.ticket) b.ticket h.added (a ∷ []) b it.under;
     made = it.made;
     registration = it.registration;
     there = registration_at-before v.book r b.ticket it.registration it.there;
@@ -124,7 +124,7 @@ module _ (h : History) (v : View) (x : ℕ) (q : Promise) (r : Registration) (k 
   new-told =
       let state : q.state ≡ state_by h.made h.settled x = its.state ∙ ap (state_by h.made h.settled) same in
       record {
-        under = found-push (λ (b : Added). b.ticket) h.added a ticket-new;
+        under = found-push (λ (b : AddedReaction). b.ticket) h.added a ticket-new;
         made = promise-made;
         registration = r;
         there = registration_at-new v.book r;
@@ -137,7 +137,7 @@ module _ (h : History) (v : View) (x : ℕ) (q : Promise) (r : Registration) (k 
         };
       }
 
-  pub kept-adds : Kept added_now added_then
+  pub kept-adds : IsHistoryOf added_now added_then
   kept-adds = record {
     below = k.below;
     issued = k.issued;
@@ -148,23 +148,23 @@ module _ (h : History) (v : View) (x : ℕ) (q : Promise) (r : Registration) (k 
     known = All-map (IsKnown added_now v.values) (λ (r : Promise). cond (r.value == x) (record r { reactions = r.reactions ++ t ∷ [] }) r) v.promises.promises
         (All-weaker (IsKnown h v.values) (λ r. IsKnown added_now v.values (cond (r.value == x) (record r { reactions = r.reactions ++ t ∷ [] }) r))
         (λ r it. added-known r it (r.value == x) refl) v.promises.promises k.known);
-    rise = subst TicketsRise (sym (map-append (λ (b : Added). b.ticket) h.added (a ∷ [])))
-        (rise-push (map (λ (b : Added). b.ticket) h.added) t (All-map (λ m. m < t) (λ (b : Added). b.ticket) h.added below) k.rise);
+    rise = subst TicketsRise (sym (map-append (λ (b : AddedReaction). b.ticket) h.added (a ∷ [])))
+        (rise-push (map (λ (b : AddedReaction). b.ticket) h.added) t (All-map (λ m. m < t) (λ (b : AddedReaction). b.ticket) h.added below) k.rise);
     told = All-push (IsTold added_now (is_from_finals_on v.phase) added_then.promises added_then.book) h.added a
         (All-weaker (IsTold h (is_from_finals_on v.phase) v.promises v.book) (IsTold added_now (is_from_finals_on v.phase) added_then.promises added_then.book)
         added-told h.added k.told) new-told;
     others = λ m is.
         let u : IsUnder (BeginsFor cause.Reaction) (with_registration r v.book) m = under (with_registration r v.book) m cause.Reaction is in
         ⊎_elim (λ old. more-added m (k.others m (at-cause v.book m u.registration old ∙ ap Some u.holds)))
-        (λ new. list_any-append (λ (b : Added). b.ticket == m) h.added (a ∷ [])
-        ∙ or_right (has (λ (b : Added). b.ticket) m h.added) _ (or_left (t == m) false (ap (λ n. t == n) new.0 ∙ same-self t)))
+        (λ new. list_any-append (λ (b : AddedReaction). b.ticket == m) h.added (a ∷ [])
+        ∙ or_right (has (λ (b : AddedReaction). b.ticket) m h.added) _ (or_left (t == m) false (ap (λ n. t == n) new.0 ∙ same-self t)))
         (registration_at-either v.book r m u.registration u.there);
-    begun = All-weaker (λ t. has (λ (b : Added). b.ticket) t h.added ≡ true) (λ t. has (λ (b : Added). b.ticket) t added_now.added ≡ true) more-added h.begun k.begun;
+    begun = All-weaker (λ t. has (λ (b : AddedReaction). b.ticket) t h.added ≡ true) (λ t. has (λ (b : AddedReaction). b.ticket) t added_now.added ≡ true) more-added h.begun k.begun;
     late = k.late;
   }
 
 -- THE PHASE GOES ON
-pub kept-phase : (h : History) (v : View) (p : Phase) → is_from_finals_on p ≡ is_from_finals_on v.phase → Kept h v → Kept h (record v { phase = p })
+pub kept-phase : (h : History) (v : PromiseView) (p : Phase) → is_from_finals_on p ≡ is_from_finals_on v.phase → IsHistoryOf h v → IsHistoryOf h (record v { phase = p })
 kept-phase h v p same k = record {
   below = k.below;
   issued = k.issued;
@@ -181,8 +181,8 @@ kept-phase h v p same k = record {
 }
 
 -- all that waits falls due
-pub kept-finals : (h : History) (v : View) → is_from_finals_on v.phase ≡ false → Kept h v
-    → Kept (record h { finals = true }) (record v { phase = phase.Finals; book = all_due v.book })
+pub kept-finals : (h : History) (v : PromiseView) → is_from_finals_on v.phase ≡ false → IsHistoryOf h v
+    → IsHistoryOf (record h { finals = true }) (record v { phase = phase.Finals; book = all_due v.book })
 kept-finals h v early k = record {
   below = k.below;
   issued = k.issued;
@@ -203,7 +203,7 @@ kept-finals h v early k = record {
     falls zero = refl
     falls (suc n) = refl
 
-    told : (a : Added) → IsTold h (is_from_finals_on v.phase) v.promises v.book a → IsTold (record h { finals = true }) true v.promises (all_due v.book) a
+    told : (a : AddedReaction) → IsTold h (is_from_finals_on v.phase) v.promises v.book a → IsTold (record h { finals = true }) true v.promises (all_due v.book) a
     told a it = record {
       under = it.under;
       made = it.made;
@@ -221,15 +221,15 @@ kept-finals h v early k = record {
     }
 
 -- A REACTION BEGINS
-module _ (h : History) (v : View) (n : ℕ) (r : Registration) (k : Kept h v) (there : registration_at v.book n ≡ Some r) (why : r.cause ≡ cause.Reaction)
+module _ (h : History) (v : PromiseView) (n : ℕ) (r : Registration) (k : IsHistoryOf h v) (there : registration_at v.book n ≡ Some r) (why : r.cause ≡ cause.Reaction)
     (due : r.state ≡ Due) where
   abbrev begun_now : History
   begun_now = record h { begun = h.begun ++ n ∷ [] }
 
-  pub was-added : has (λ (b : Added). b.ticket) n h.added ≡ true
+  pub was-added : has (λ (b : AddedReaction). b.ticket) n h.added ≡ true
   was-added = k.others n (at-cause v.book n r there ∙ ap Some why)
 
-  began : (a : Added) → IsTold h (is_from_finals_on v.phase) v.promises v.book a → (b : Bool) → (a.ticket == n) ≡ b
+  began : (a : AddedReaction) → IsTold h (is_from_finals_on v.phase) v.promises v.book a → (b : Bool) → (a.ticket == n) ≡ b
       → IsTold begun_now (is_from_finals_on v.phase) v.promises (moved_at made_begun n v.book) a
   began a it true is =
       let one : r ≡ it.registration = same_Some r it.registration (sym there ∙ ap (registration_at v.book) (sym (eqb-true a.ticket n is)) ∙ it.there) in
@@ -263,7 +263,7 @@ module _ (h : History) (v : View) (n : ℕ) (r : Registration) (k : Kept h v) (t
       or-none true = refl
       or-none false = refl
 
-  pub kept-begins : Kept begun_now (record v { book = moved_at made_begun n v.book })
+  pub kept-begins : IsHistoryOf begun_now (record v { book = moved_at made_begun n v.book })
   kept-begins = record {
     below = k.below;
     issued = k.issued;
@@ -277,7 +277,7 @@ module _ (h : History) (v : View) (n : ℕ) (r : Registration) (k : Kept h v) (t
     told = All-weaker (IsTold h (is_from_finals_on v.phase) v.promises v.book) (IsTold begun_now (is_from_finals_on v.phase) v.promises (moved_at made_begun n v.book))
         (λ a it. began a it (a.ticket == n) refl) h.added k.told;
     others = λ m is. k.others m (sym (cause_at-changed_where (moved made_begun) (λ r. refl) (λ m. m == n) v.book m) ∙ is);
-    begun = All-push (λ t. has (λ (b : Added). b.ticket) t h.added ≡ true) h.begun n k.begun was-added;
+    begun = All-push (λ t. has (λ (b : AddedReaction). b.ticket) t h.added ≡ true) h.begun n k.begun was-added;
     late = k.late;
   }
 
@@ -294,8 +294,8 @@ other-reactions t ps p m apart is =
     by None is = is
     by (Some r) is = has_number-filter m (λ m. not (m == t)) r.reactions ∙ ap (λ b. not b && has_number m r.reactions) apart ∙ is
 
-pub kept-ended : (h : History) (v : View) (t : ℕ) (book : Book) → is_at is_owed v.book t ≡ false → SameReactions v.book book → Kept h v
-    → Kept h (record v { promises = without_reaction t v.promises; book = book })
+pub kept-ended : (h : History) (v : PromiseView) (t : ℕ) (book : Book) → is_at is_owed v.book t ≡ false → SameReactions v.book book → IsHistoryOf h v
+    → IsHistoryOf h (record v { promises = without_reaction t v.promises; book = book })
 kept-ended h v t book spent same k = record {
   below = k.below;
   issued = k.issued;
@@ -320,12 +320,12 @@ kept-ended h v t book spent same k = record {
   late = k.late;
 }
   where
-    apart : (a : Added) (r : Registration) → registration_at v.book a.ticket ≡ Some r → is_owed r.state ≡ true → (b : Bool) → (a.ticket == t) ≡ b → b ≡ false
+    apart : (a : AddedReaction) (r : Registration) → registration_at v.book a.ticket ≡ Some r → is_owed r.state ≡ true → (b : Bool) → (a.ticket == t) ≡ b → b ≡ false
     apart a r there owed false is = refl
     apart a r there owed true is =
         absurd (true-or-false _ (ap (is_at is_owed v.book) (sym (eqb-true a.ticket t is)) ∙ at-state is_owed v.book a.ticket r there ∙ owed) spent)
 
-    left : (a : Added) → IsTold h (is_from_finals_on v.phase) v.promises v.book a → IsTold h (is_from_finals_on v.phase) (without_reaction t v.promises) v.book a
+    left : (a : AddedReaction) → IsTold h (is_from_finals_on v.phase) v.promises v.book a → IsTold h (is_from_finals_on v.phase) (without_reaction t v.promises) v.book a
     left a it = record {
       under = it.under;
       made = it.made;
@@ -339,9 +339,9 @@ kept-ended h v t book spent same k = record {
 
 -- A COLLECTION
 -- each promise that has a reaction stays
-pub kept-collected : (h : History) (v : View) (alive : List ℕ) (book : Book)
-    → ((p t : ℕ) → is_reaction_of v.promises p t ≡ true → has_number p alive ≡ true) → SameReactions v.book book → Kept h v
-    → Kept h (record v { values = those_of alive v.values; promises = promises_left (is_freed alive) v.promises; book = book })
+pub kept-collected : (h : History) (v : PromiseView) (alive : List ℕ) (book : Book)
+    → ((p t : ℕ) → is_reaction_of v.promises p t ≡ true → has_number p alive ≡ true) → SameReactions v.book book → IsHistoryOf h v
+    → IsHistoryOf h (record v { values = those_of alive v.values; promises = promises_left (is_freed alive) v.promises; book = book })
 kept-collected h v alive book rooted same k = record {
   below = k.below;
   issued = k.issued;
@@ -380,7 +380,7 @@ kept-collected h v alive book rooted same k = record {
         (found-filter (λ (r : Promise). r.value) (λ n. not (is_freed alive n)) p v.promises.promises
         ∙ ap (λ b. cond (not (not b)) (promise_at v.promises p) None) (rooted p t is)) ∙ is
 
-    left : (a : Added) → IsTold h (is_from_finals_on v.phase) v.promises v.book a
+    left : (a : AddedReaction) → IsTold h (is_from_finals_on v.phase) v.promises v.book a
         → IsTold h (is_from_finals_on v.phase) (promises_left (is_freed alive) v.promises) v.book a
     left a it = record {
       under = it.under;

@@ -14,7 +14,7 @@ use Rattle.napi_types.specs.runs.Machine.{Machine}
 use Rattle.napi_types.specs.runs.Run.{IsRunBy, after, final}
 use Rattle.napi_types.specs.runs.Setting.{Setting, opens_with, opening_of, final_of}
 use Rattle.napi_types.specs.runs.Step.{step}
-use Rattle.napi_types.specs.all_runs.SettledPromises.{Told, Made, Settled, Added, told_of, told_along, all_added, has_begun, MayBeTold, PromisesAreSettled}
+use Rattle.napi_types.specs.all_runs.SettledPromises.{PromiseFact, MadeDeferred, SettledDeferred, AddedReaction, told_of, told_along, all_added, has_begun, MayBeTold, PromisesAreSettled}
 use Rattle.napi_types.proofs.parts.Moved.{at-state}
 use Rattle.napi_types.proofs.runs.Forms.{form-of}
 use Rattle.napi_types.proofs.runs.NewNumbers.{next-new}
@@ -23,34 +23,32 @@ use Rattle.napi_types.proofs.all_runs.Onces.{as_one, none-owed-at-end}
 use Rattle.napi_types.proofs.all_runs.Orderly.{Orderly, along-orderly, orderly-opens}
 use Rattle.napi_types.proofs.all_runs.PromiseBooks.{none-linked}
 use Rattle.napi_types.proofs.all_runs.PromiseHistory.{history, IsFoundIn}
-use Rattle.napi_types.proofs.all_runs.PromiseStates.{View, view, IsTold, IsKnown, IsOpen, Kept}
+use Rattle.napi_types.proofs.all_runs.PromiseStates.{PromiseView, view, IsTold, IsKnown, IsOpen, IsHistoryOf}
 use Rattle.napi_types.proofs.all_runs.PromiseSteps.{Sound, stands-at-call, promise-step}
 use Rattle.napi_types.proofs.all_runs.PromiseTells.{Keeps, tells_one, tells_none}
+use Rattle.napi_types.proofs.all_runs.QuietCalls.{NoLink}
 use Rattle.napi_types.proofs.all_runs.SpentFrames.{FrameSpent, StandsSpent, spent-step}
 
 -- WHAT MAY BE TOLD
 -- each of these may be told after those and after the ones before it
-abbrev MayFollow : List Told → List Told → Type 0
+abbrev MayFollow : List PromiseFact → List PromiseFact → Type 0
 MayFollow ts [] = Unit {0}
 MayFollow ts (x ∷ xs) = MayBeTold ts x × MayFollow (ts ++ x ∷ []) xs
 
 -- so each may be told where it is
-may-at : (ts before later : List Told) (e : Told) → MayFollow ts (before ++ e ∷ later) → MayBeTold (ts ++ before) e
+may-at : (ts before later : List PromiseFact) (e : PromiseFact) → MayFollow ts (before ++ e ∷ later) → MayBeTold (ts ++ before) e
 may-at ts [] later e may = subst (λ us. MayBeTold us e) (sym (append-nil ts)) may.0
 may-at ts (x ∷ before) later e may = subst (λ us. MayBeTold us e) (append_assoc ts (x ∷ []) before) (may-at (ts ++ x ∷ []) before later e may.1)
 
 -- WHERE A RUN STARTS
-abbrev NoLink : Value → Type 0
-NoLink w = w.link ≡ None
-
 starting-unlinked : All NoLink starting_values
 starting-unlinked = search (All-cons, All-nil) depth 12
 
-opening-kept : (given : OpenedWith) → Kept (history []) (view (new_environment given))
+opening-kept : (given : OpenedWith) → IsHistoryOf (history []) (view (new_environment given))
 opening-kept given = record {
-  below = All-nil (λ (m : Made). _);
-  issued = All-nil (λ (m : Made). _);
-  settled = All-nil (λ (s : Settled). _);
+  below = All-nil (λ (m : MadeDeferred). _);
+  issued = All-nil (λ (m : MadeDeferred). _);
+  settled = All-nil (λ (s : SettledDeferred). _);
   apart = All-nil (IsFoundIn []);
   unlinked = λ n above. none-linked n starting_values starting-unlinked;
   deferreds = All-nil (IsOpen (history []));
@@ -62,7 +60,7 @@ opening-kept given = record {
   late = refl;
 }
   where
-    others : (n : ℕ) → cause_at [] n ≡ Some cause.Reaction → has (λ (a : Added). a.ticket) n [] ≡ true
+    others : (n : ℕ) → cause_at [] n ≡ Some cause.Reaction → has (λ (a : AddedReaction). a.ticket) n [] ≡ true
     others zero is = let no : ⊥ = cc in absurd no
     others (suc n) is = let no : ⊥ = cc in absurd no
 
@@ -71,13 +69,13 @@ opens-sound s = record { kept = opening-kept (opens_with s); spent = All-nil (Fr
 
 -- ALONG A RUN
 -- what the rest of a run tells after this, and where it then is
-record TellsOn (ts : List Told) (news : List Told) (m : Machine) : Type 0 where
+record TellsOn (ts : List PromiseFact) (news : List PromiseFact) (m : Machine) : Type 0 where
   pub may : MayFollow ts news
   pub sound : Sound (ts ++ news) m.env
 
-run-tells : (m : Machine) (bs : List Ask) (xs : List Entry) → Orderly m → IsRunBy m bs xs → (ts : List Told) → Sound ts m.env
+run-tells : (m : Machine) (bs : List Ask) (xs : List Entry) → Orderly m → IsRunBy m bs xs → (ts : List PromiseFact) → Sound ts m.env
     → TellsOn ts (told_along m bs xs) (final m bs xs)
-run-tells = along-orderly (λ m bs xs. (ts : List Told) → Sound ts m.env → TellsOn ts (told_along m bs xs) (final m bs xs))
+run-tells = along-orderly (λ m bs xs. (ts : List PromiseFact) → Sound ts m.env → TellsOn ts (told_along m bs xs) (final m bs xs))
     (λ m ts sound. record { may = tt; sound = subst (λ us. Sound us m.env) (sym (append-nil ts)) sound })
     (λ m a bs x xs h next s k rest ts sound.
     let here : Keeps ts (told_of m x (after m a x)) (view (after m a x).env) =
@@ -86,19 +84,19 @@ run-tells = along-orderly (λ m bs xs. (ts : List Told) → Sound ts m.env → T
     more ts (told_of m x (after m a x)) (view (after m a x).env) here (told_along (after m a x) bs xs) (after m a x).env refl (final (after m a x) bs xs)
     (spent-step m (step m a x) s sound.spent) (fits-step m (step m a x) s sound.fits) (λ us. rest us))
   where
-    more : (ts news : List Told) (v : View) → Keeps ts news v → (later : List Told) (e : Environment) → view e ≡ v → (n : Machine)
-        → StandsSpent e → HandlesFit e → ((us : List Told) → Sound us e → TellsOn us later n) → TellsOn ts (news ++ later) n
-    more ts _ _ (tells_none v kept) later e same n spent fits rest = rest ts (record { kept = subst (Kept (history ts)) (sym same) kept; spent = spent; fits = fits })
+    more : (ts news : List PromiseFact) (v : PromiseView) → Keeps ts news v → (later : List PromiseFact) (e : Environment) → view e ≡ v → (n : Machine)
+        → StandsSpent e → HandlesFit e → ((us : List PromiseFact) → Sound us e → TellsOn us later n) → TellsOn ts (news ++ later) n
+    more ts _ _ (tells_none v kept) later e same n spent fits rest = rest ts (record { kept = subst (IsHistoryOf (history ts)) (sym same) kept; spent = spent; fits = fits })
     more ts _ _ (tells_one x v may kept) later e same n spent fits rest =
         let t : TellsOn (ts ++ x ∷ []) later n =
-        rest (ts ++ x ∷ []) (record { kept = subst (Kept (history (ts ++ x ∷ []))) (sym same) kept; spent = spent; fits = fits }) in
+        rest (ts ++ x ∷ []) (record { kept = subst (IsHistoryOf (history (ts ++ x ∷ []))) (sym same) kept; spent = spent; fits = fits }) in
         record { may = (may, t.may); sound = subst (λ us. Sound us n.env) (append_assoc ts (x ∷ []) later) t.sound }
 
 -- THE LAW
 -- where no ticket has its frame to come, each reaction has begun
-all-begun : (ts : List Told) (e : Environment) → Sound ts e → ((t : ℕ) → is_at is_owed e.book t ≡ false) → All (λ a. has_begun ts a.ticket ≡ true) (all_added ts)
+all-begun : (ts : List PromiseFact) (e : Environment) → Sound ts e → ((t : ℕ) → is_at is_owed e.book t ≡ false) → All (λ a. has_begun ts a.ticket ≡ true) (all_added ts)
 all-begun ts e sound none =
-    All-weaker (IsTold (history ts) _ e.promises e.book) (λ (a : Added). has_begun ts a.ticket ≡ true)
+    All-weaker (IsTold (history ts) _ e.promises e.book) (λ (a : AddedReaction). has_begun ts a.ticket ≡ true)
     (λ a it. by (has_begun ts a.ticket) (sym (none a.ticket) ∙ at-state is_owed e.book a.ticket it.registration it.there ∙ it.owed)) (all_added ts) sound.kept.told
   where
     by : (b : Bool) → false ≡ not b → b ≡ true

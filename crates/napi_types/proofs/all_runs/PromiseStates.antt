@@ -15,22 +15,22 @@ use Rattle.napi_types.specs.parts.Values.{Value, value_at, link_of, linked_value
 use Rattle.napi_types.specs.environment.Environment.{Environment}
 use Rattle.napi_types.specs.environment.Hooked.{is_from_finals_on}
 use Rattle.napi_types.specs.environment.PromiseCalls.{reaction_state}
-use Rattle.napi_types.specs.all_runs.SettledPromises.{Made, Settled, Added}
+use Rattle.napi_types.specs.all_runs.SettledPromises.{MadeDeferred, SettledDeferred, AddedReaction}
 use Rattle.napi_types.proofs.plain.Found.{found-with_record, found-number, found-All, has-found, apart-below, apart-above, same-self, has-with_number}
 use Rattle.napi_types.proofs.plain.Maps.{All-with_record}
-use Rattle.napi_types.proofs.all_runs.PromiseBooks.{StaysUnder, SameReactions, KeepsLinks, more-links}
+use Rattle.napi_types.proofs.all_runs.PromiseBooks.{StaysUnder, SameReactions, KeepsEachLink, more-links}
 use Rattle.napi_types.proofs.all_runs.PromiseHistory.{History, settlement_by, state_by, value_by, IsFoundIn, found-of, unfound, has-of, found-still, found-push, settlement-more}
 
 -- WHAT IS HELD
 -- what of an environment has to do with promises
-pub record View : Type 0 where
+pub record PromiseView : Type 0 where
   pub phase : Phase
   pub made : ℕ
   pub values : List Value
   pub promises : Promises
   pub book : Book
 
-abbrev pub view : Environment → View
+abbrev pub view : Environment → PromiseView
 view e = record { phase = e.phase; made = e.heap.made; values = e.heap.values; promises = e.promises; book = e.book }
 
 -- how far the ticket of a reaction has come that waits, by whether `finals` came and by the state of its promise
@@ -39,15 +39,15 @@ waiting true state = Due
 waiting false state = reaction_state state
 
 -- it waits so, with the state of its promise as its hint, and its promise has it
-pub record Waits (late : Bool) (given : ℕ) (ps : Promises) (a : Added) (r : Registration) : Type 0 where
+pub record Waits (late : Bool) (given : ℕ) (ps : Promises) (a : AddedReaction) (r : Registration) : Type 0 where
   pub hint : r.hint ≡ given
   pub state : r.state ≡ waiting late given
   pub among : is_reaction_of ps a.promise a.ticket ≡ true
 
 -- a reaction that was added is registered, and waits until it begins
-pub record IsTold (h : History) (late : Bool) (ps : Promises) (book : Book) (a : Added) : Type 0 where
-  pub under : found (λ (b : Added). b.ticket) a.ticket h.added ≡ Some a
-  pub made : has (λ (m : Made). m.promise) a.promise h.made ≡ true
+pub record IsTold (h : History) (late : Bool) (ps : Promises) (book : Book) (a : AddedReaction) : Type 0 where
+  pub under : found (λ (b : AddedReaction). b.ticket) a.ticket h.added ≡ Some a
+  pub made : has (λ (m : MadeDeferred). m.promise) a.promise h.made ≡ true
   pub registration : Registration
   pub there : registration_at book a.ticket ≡ Some registration
   pub cause : registration.cause ≡ cause.Reaction
@@ -55,29 +55,29 @@ pub record IsTold (h : History) (late : Bool) (ps : Promises) (book : Book) (a :
   pub waits : is_owed registration.state ≡ true → Waits late (state_by h.made h.settled a.promise) ps a registration
 
 -- the promise to which the reaction of a ticket was added
-abbrev pub added_under : List Added → ℕ → Option ℕ
-added_under added t = option_map (λ (a : Added). a.promise) (found (λ (a : Added). a.ticket) t added)
+abbrev pub added_under : List AddedReaction → ℕ → Option ℕ
+added_under added t = option_map (λ (a : AddedReaction). a.promise) (found (λ (a : AddedReaction). a.ticket) t added)
 
 -- a promise was made, and has the state and the value with which it was settled; its reactions were added to it
 pub record IsKnown (h : History) (vs : List Value) (r : Promise) : Type 0 where
   pub there : is_some (value_at vs r.value) ≡ true
-  pub made : has (λ (m : Made). m.promise) r.value h.made ≡ true
+  pub made : has (λ (m : MadeDeferred). m.promise) r.value h.made ≡ true
   pub state : r.state ≡ state_by h.made h.settled r.value
   pub value : link_of vs r.value ≡ value_by h.made h.settled r.value
   pub reactions : All (λ t. added_under h.added t ≡ Some r.value) r.reactions
 
-abbrev pub made_of : ℕ → ℕ → Made
+abbrev pub made_of : ℕ → ℕ → MadeDeferred
 made_of d p = record { deferred = d; promise = p }
 
 -- a deferred that is not settled was made with its promise
 pub record IsOpen (h : History) (d : Deferred) : Type 0 where
-  pub made : found (λ (m : Made). m.deferred) d.number h.made ≡ Some (made_of d.number d.promise)
-  pub unsettled : has (λ (s : Settled). s.deferred) d.number h.settled ≡ false
+  pub made : found (λ (m : MadeDeferred). m.deferred) d.number h.made ≡ Some (made_of d.number d.promise)
+  pub unsettled : has (λ (s : SettledDeferred). s.deferred) d.number h.settled ≡ false
 
 abbrev pub IsIssued : Promises → ℕ → Type 0
 IsIssued p n = has_number n p.issued ≡ true
 
-pub record Kept (h : History) (v : View) : Type 0 where
+pub record IsHistoryOf (h : History) (v : PromiseView) : Type 0 where
   -- promises and deferreds that were made
   pub below : All (λ m. m.promise ≤ v.made) h.made
   pub issued : All (λ m. IsIssued v.promises m.deferred) h.made
@@ -89,10 +89,10 @@ pub record Kept (h : History) (v : View) : Type 0 where
   pub deferreds : All (IsOpen h) v.promises.deferreds
   pub known : All (IsKnown h v.values) v.promises.promises
   -- the reactions that were added, which are those of the book, and those that began
-  pub rise : TicketsRise (map (λ (a : Added). a.ticket) h.added)
+  pub rise : TicketsRise (map (λ (a : AddedReaction). a.ticket) h.added)
   pub told : All (IsTold h (is_from_finals_on v.phase) v.promises v.book) h.added
-  pub others : (n : ℕ) → cause_at v.book n ≡ Some cause.Reaction → has (λ (a : Added). a.ticket) n h.added ≡ true
-  pub begun : All (λ t. has (λ (a : Added). a.ticket) t h.added ≡ true) h.begun
+  pub others : (n : ℕ) → cause_at v.book n ≡ Some cause.Reaction → has (λ (a : AddedReaction). a.ticket) n h.added ≡ true
+  pub begun : All (λ t. has (λ (a : AddedReaction). a.ticket) t h.added ≡ true) h.begun
   pub late : is_from_finals_on v.phase ≡ h.finals
 
 -- WORDS
@@ -115,32 +115,32 @@ true-or-false true is isnt = cc
 true-or-false false is isnt = cc
 
 -- a promise that was made is one of the first values
-pub made-below : (h : History) (v : View) → Kept h v → (p : ℕ) → has (λ (m : Made). m.promise) p h.made ≡ true → p ≤ v.made
+pub made-below : (h : History) (v : PromiseView) → IsHistoryOf h v → (p : ℕ) → has (λ (m : MadeDeferred). m.promise) p h.made ≡ true → p ≤ v.made
 made-below h v k p is =
-    let it = found-of (λ (m : Made). m.promise) p h.made is in
-    subst (λ n. n ≤ v.made) (found-number (λ (m : Made). m.promise) p h.made it.0 it.1) (found-All (λ (m : Made). m.promise) (λ m. m.promise ≤ v.made) p h.made it.0 k.below it.1)
+    let it = found-of (λ (m : MadeDeferred). m.promise) p h.made is in
+    subst (λ n. n ≤ v.made) (found-number (λ (m : MadeDeferred). m.promise) p h.made it.0 it.1) (found-All (λ (m : MadeDeferred). m.promise) (λ m. m.promise ≤ v.made) p h.made it.0 k.below it.1)
 
 -- what is told of a ticket's promise is still told
-pub under-still : (xs ys : List Added) (t p : ℕ) → added_under xs t ≡ Some p → added_under (xs ++ ys) t ≡ Some p
-under-still xs ys t p is = by (found (λ (a : Added). a.ticket) t xs) refl is
+pub under-still : (xs ys : List AddedReaction) (t p : ℕ) → added_under xs t ≡ Some p → added_under (xs ++ ys) t ≡ Some p
+under-still xs ys t p is = by (found (λ (a : AddedReaction). a.ticket) t xs) refl is
   where
-    by : (o : Option Added) → found (λ (a : Added). a.ticket) t xs ≡ o → option_map (λ (a : Added). a.promise) o ≡ Some p → added_under (xs ++ ys) t ≡ Some p
+    by : (o : Option AddedReaction) → found (λ (a : AddedReaction). a.ticket) t xs ≡ o → option_map (λ (a : AddedReaction). a.promise) o ≡ Some p → added_under (xs ++ ys) t ≡ Some p
     by None there is = let no : ⊥ = cc in absurd no
-    by (Some a) there is = ap (option_map (λ (a : Added). a.promise)) (found-still (λ (a : Added). a.ticket) t xs ys a there) ∙ is
+    by (Some a) there is = ap (option_map (λ (a : AddedReaction). a.promise)) (found-still (λ (a : AddedReaction). a.ticket) t xs ys a there) ∙ is
 
 -- a reaction that is told is told of by its ticket
-pub told-at : (h : History) (v : View) → Kept h v → (t : ℕ) → has (λ (a : Added). a.ticket) t h.added ≡ true
-    → (a : Added) × (a.ticket ≡ t) × (IsTold h (is_from_finals_on v.phase) v.promises v.book a)
+pub told-at : (h : History) (v : PromiseView) → IsHistoryOf h v → (t : ℕ) → has (λ (a : AddedReaction). a.ticket) t h.added ≡ true
+    → (a : AddedReaction) × (a.ticket ≡ t) × (IsTold h (is_from_finals_on v.phase) v.promises v.book a)
 told-at h v k t is =
-    let it = found-of (λ (a : Added). a.ticket) t h.added is in (
+    let it = found-of (λ (a : AddedReaction). a.ticket) t h.added is in (
       it.0,
-      found-number (λ (a : Added). a.ticket) t h.added it.0 it.1,
-      found-All (λ (a : Added). a.ticket) (IsTold h (is_from_finals_on v.phase) v.promises v.book) t h.added it.0 k.told it.1,
+      found-number (λ (a : AddedReaction). a.ticket) t h.added it.0 it.1,
+      found-All (λ (a : AddedReaction). a.ticket) (IsTold h (is_from_finals_on v.phase) v.promises v.book) t h.added it.0 k.told it.1,
     )
 
 -- NOTHING IS TOLD
 -- the book, the values and how many were made change
-pub told-book : (h : History) (late : Bool) (ps : Promises) (b c : Book) (a : Added) → SameReactions b c → IsTold h late ps b a → IsTold h late ps c a
+pub told-book : (h : History) (late : Bool) (ps : Promises) (b c : Book) (a : AddedReaction) → SameReactions b c → IsTold h late ps b a → IsTold h late ps c a
 told-book h late ps b c a same t =
     let s : StaysUnder c a.ticket t.registration = same.forth a.ticket t.registration t.there t.cause in
     record {
@@ -155,7 +155,7 @@ told-book h late ps b c a same t =
           subst (Waits late (state_by h.made h.settled a.promise) ps a) (sym (s.same was)) (t.waits was);
     }
 
-pub known-values : (h : History) (vs ws : List Value) (r : Promise) → KeepsLinks vs ws → IsKnown h vs r → IsKnown h ws r
+pub known-values : (h : History) (vs ws : List Value) (r : Promise) → KeepsEachLink vs ws → IsKnown h vs r → IsKnown h ws r
 known-values h vs ws r links k = record {
   there = links.stays r.value k.there;
   made = k.made;
@@ -164,10 +164,10 @@ known-values h vs ws r links k = record {
   reactions = k.reactions;
 }
 
-pub kept-quiet : (h : History) (v : View) (made : ℕ) (values : List Value) (book : Book) → v.made ≤ made → KeepsLinks v.values values → SameReactions v.book book
-    → Kept h v → Kept h (record v { made = made; values = values; book = book })
+pub kept-quiet : (h : History) (v : PromiseView) (made : ℕ) (values : List Value) (book : Book) → v.made ≤ made → KeepsEachLink v.values values → SameReactions v.book book
+    → IsHistoryOf h v → IsHistoryOf h (record v { made = made; values = values; book = book })
 kept-quiet h v made values book grows links same k = record {
-  below = All-weaker (λ (m : Made). m.promise ≤ v.made) (λ m. m.promise ≤ made) (λ m is. omega (arith, is, grows)) h.made k.below;
+  below = All-weaker (λ (m : MadeDeferred). m.promise ≤ v.made) (λ m. m.promise ≤ made) (λ m is. omega (arith, is, grows)) h.made k.below;
   issued = k.issued;
   settled = k.settled;
   apart = k.apart;
@@ -183,28 +183,28 @@ kept-quiet h v made values book grows links same k = record {
 }
 
 -- A PROMISE IS MADE
-module _ (h : History) (v : View) (n : ℕ) (k : Kept h v) (fresh : has_number n v.promises.issued ≡ false) where
+module _ (h : History) (v : PromiseView) (n : ℕ) (k : IsHistoryOf h v) (fresh : has_number n v.promises.issued ≡ false) where
   abbrev p : ℕ
   p = v.made + 1
 
   abbrev now : History
   now = record h { made = h.made ++ made_of n p ∷ [] }
 
-  abbrev then : View
+  abbrev then : PromiseView
   then = record v { made = p; values = v.values ++ linked_value p promise_tag None ∷ []; promises = with_promise p n v.promises }
 
-  pub new-promise : has (λ (m : Made). m.promise) p h.made ≡ false
-  new-promise = has-none (λ (m : Made). m.promise) p h.made
-      (All-weaker (λ (m : Made). m.promise ≤ v.made) (λ m. (m.promise == p) ≡ false) (λ m is. apart-below m.promise p (omega (arith, is))) h.made k.below)
+  pub new-promise : has (λ (m : MadeDeferred). m.promise) p h.made ≡ false
+  new-promise = has-none (λ (m : MadeDeferred). m.promise) p h.made
+      (All-weaker (λ (m : MadeDeferred). m.promise ≤ v.made) (λ m. (m.promise == p) ≡ false) (λ m is. apart-below m.promise p (omega (arith, is))) h.made k.below)
 
-  pub new-deferred : has (λ (m : Made). m.deferred) n h.made ≡ false
-  new-deferred = has-none (λ (m : Made). m.deferred) n h.made
-      (All-weaker (λ (m : Made). IsIssued v.promises m.deferred) (λ m. (m.deferred == n) ≡ false)
+  pub new-deferred : has (λ (m : MadeDeferred). m.deferred) n h.made ≡ false
+  new-deferred = has-none (λ (m : MadeDeferred). m.deferred) n h.made
+      (All-weaker (λ (m : MadeDeferred). IsIssued v.promises m.deferred) (λ m. (m.deferred == n) ≡ false)
       (λ m is. other-number (IsIssued v.promises) m.deferred n is (λ its. true-or-false _ its fresh)) h.made k.issued)
 
-  new-settled : has (λ (s : Settled). s.deferred) n h.settled ≡ false
-  new-settled = has-none (λ (s : Settled). s.deferred) n h.settled
-      (All-weaker (λ (s : Settled). IsIssued v.promises s.deferred) (λ s. (s.deferred == n) ≡ false)
+  new-settled : has (λ (s : SettledDeferred). s.deferred) n h.settled ≡ false
+  new-settled = has-none (λ (s : SettledDeferred). s.deferred) n h.settled
+      (All-weaker (λ (s : SettledDeferred). IsIssued v.promises s.deferred) (λ s. (s.deferred == n) ≡ false)
       (λ s is. other-number (IsIssued v.promises) s.deferred n is (λ its. true-or-false _ its fresh)) h.settled k.settled)
 
   still-issued : (d : ℕ) → IsIssued v.promises d → IsIssued then.promises d
@@ -212,30 +212,30 @@ module _ (h : History) (v : View) (n : ℕ) (k : Kept h v) (fresh : has_number n
 
   here : IsFoundIn now.made (made_of n p)
   here = record {
-    deferred = found-push (λ (m : Made). m.deferred) h.made (made_of n p) new-deferred;
-    promise = found-push (λ (m : Made). m.promise) h.made (made_of n p) new-promise;
+    deferred = found-push (λ (m : MadeDeferred). m.deferred) h.made (made_of n p) new-deferred;
+    promise = found-push (λ (m : MadeDeferred). m.promise) h.made (made_of n p) new-promise;
   }
 
-  links : KeepsLinks v.values then.values
+  links : KeepsEachLink v.values then.values
   links = more-links v.values (linked_value p promise_tag None ∷ []) (All-cons (λ (w : Value). w.link ≡ None) _ [] refl (All-nil (λ (w : Value). w.link ≡ None)))
 
-  more-made : (q : ℕ) → has (λ (m : Made). m.promise) q h.made ≡ true → has (λ (m : Made). m.promise) q now.made ≡ true
-  more-made q is = list_any-append (λ (m : Made). m.promise == q) h.made (made_of n p ∷ []) ∙ or_left (has (λ (m : Made). m.promise) q h.made) _ is
+  more-made : (q : ℕ) → has (λ (m : MadeDeferred). m.promise) q h.made ≡ true → has (λ (m : MadeDeferred). m.promise) q now.made ≡ true
+  more-made q is = list_any-append (λ (m : MadeDeferred). m.promise == q) h.made (made_of n p ∷ []) ∙ or_left (has (λ (m : MadeDeferred). m.promise) q h.made) _ is
 
-  same-settlement : (q : ℕ) → has (λ (m : Made). m.promise) q h.made ≡ true → settlement_by now.made now.settled q ≡ settlement_by h.made h.settled q
+  same-settlement : (q : ℕ) → has (λ (m : MadeDeferred). m.promise) q h.made ≡ true → settlement_by now.made now.settled q ≡ settlement_by h.made h.settled q
   same-settlement q is = settlement-more h.made (made_of n p ∷ []) h.settled q is
 
   no-settlement : settlement_by now.made now.settled p ≡ None
   no-settlement =
-      ap (option_and_then (λ (m : Made). found (λ (s : Settled). s.deferred) m.deferred h.settled)) here.promise
-      ∙ unfound (λ (s : Settled). s.deferred) n h.settled new-settled
+      ap (option_and_then (λ (m : MadeDeferred). found (λ (s : SettledDeferred). s.deferred) m.deferred h.settled)) here.promise
+      ∙ unfound (λ (s : SettledDeferred). s.deferred) n h.settled new-settled
 
   old-known : (r : Promise) → IsKnown h v.values r → IsKnown now then.values r
   old-known r it = record {
     there = links.stays r.value it.there;
     made = more-made r.value it.made;
-    state = it.state ∙ sym (ap (λ o. unwrap_or (option_map (λ (s : Settled). s.state) o) 0) (same-settlement r.value it.made));
-    value = links.links r.value ∙ it.value ∙ sym (ap (option_map (λ (s : Settled). s.value)) (same-settlement r.value it.made));
+    state = it.state ∙ sym (ap (λ o. unwrap_or (option_map (λ (s : SettledDeferred). s.state) o) 0) (same-settlement r.value it.made));
+    value = links.links r.value ∙ it.value ∙ sym (ap (option_map (λ (s : SettledDeferred). s.value)) (same-settlement r.value it.made));
     reactions = it.reactions;
   }
 
@@ -243,20 +243,20 @@ module _ (h : History) (v : View) (n : ℕ) (k : Kept h v) (fresh : has_number n
   new-known = record {
     there = sym (has-found (λ (w : Value). w.number) p then.values) ∙ list_any-append (λ (w : Value). w.number == p) v.values (linked_value p promise_tag None ∷ [])
         ∙ or_right (has (λ (w : Value). w.number) p v.values) _ (or_left (p == p) false (same-self p));
-    made = has-of (λ (m : Made). m.promise) p now.made (made_of n p) here.promise;
-    state = sym (ap (λ o. unwrap_or (option_map (λ (s : Settled). s.state) o) 0) no-settlement);
-    value = links.links p ∙ k.unlinked p (omega arith) ∙ sym (ap (option_map (λ (s : Settled). s.value)) no-settlement);
+    made = has-of (λ (m : MadeDeferred). m.promise) p now.made (made_of n p) here.promise;
+    state = sym (ap (λ o. unwrap_or (option_map (λ (s : SettledDeferred). s.state) o) 0) no-settlement);
+    value = links.links p ∙ k.unlinked p (omega arith) ∙ sym (ap (option_map (λ (s : SettledDeferred). s.value)) no-settlement);
     reactions = All-nil (λ t. added_under h.added t ≡ Some p);
   }
 
-  old-told : (a : Added) → IsTold h (is_from_finals_on v.phase) v.promises v.book a → IsTold now (is_from_finals_on v.phase) then.promises v.book a
+  old-told : (a : AddedReaction) → IsTold h (is_from_finals_on v.phase) v.promises v.book a → IsTold now (is_from_finals_on v.phase) then.promises v.book a
   old-told a it =
       let apart : (p == a.promise) ≡ false = apart-above a.promise p (omega (arith, made-below h v k a.promise it.made)) in
       let at : promise_at then.promises a.promise ≡ promise_at v.promises a.promise =
       found-with_record (λ (r : Promise). r.value) a.promise (record { value = p; state = 0; reactions = [] }) v.promises.promises
       ∙ ap (λ b. cond b (Some (record { value = p; state = 0; reactions = [] })) (promise_at v.promises a.promise)) apart in
       let state : state_by h.made h.settled a.promise ≡ state_by now.made now.settled a.promise =
-      sym (ap (λ o. unwrap_or (option_map (λ (s : Settled). s.state) o) 0) (same-settlement a.promise it.made)) in
+      sym (ap (λ o. unwrap_or (option_map (λ (s : SettledDeferred). s.state) o) 0) (same-settlement a.promise it.made)) in
       record {
         under = it.under;
         made = more-made a.promise it.made;
@@ -272,26 +272,26 @@ module _ (h : History) (v : View) (n : ℕ) (k : Kept h v) (fresh : has_number n
             };
       }
 
-  pub kept-makes : Kept now then
+  pub kept-makes : IsHistoryOf now then
   kept-makes = record {
-    below = All-push (λ (m : Made). m.promise ≤ p) h.made (made_of n p)
-        (All-weaker (λ (m : Made). m.promise ≤ v.made) (λ m. m.promise ≤ p) (λ m is. omega (arith, is)) h.made k.below) (omega arith);
-    issued = All-push (λ (m : Made). IsIssued then.promises m.deferred) h.made (made_of n p)
-        (All-weaker (λ (m : Made). IsIssued v.promises m.deferred) (λ m. IsIssued then.promises m.deferred) (λ m is. still-issued m.deferred is) h.made k.issued)
+    below = All-push (λ (m : MadeDeferred). m.promise ≤ p) h.made (made_of n p)
+        (All-weaker (λ (m : MadeDeferred). m.promise ≤ v.made) (λ m. m.promise ≤ p) (λ m is. omega (arith, is)) h.made k.below) (omega arith);
+    issued = All-push (λ (m : MadeDeferred). IsIssued then.promises m.deferred) h.made (made_of n p)
+        (All-weaker (λ (m : MadeDeferred). IsIssued v.promises m.deferred) (λ m. IsIssued then.promises m.deferred) (λ m is. still-issued m.deferred is) h.made k.issued)
         (has-with_number n n v.promises.issued ∙ or_left (n == n) (has_number n v.promises.issued) (same-self n));
-    settled = All-weaker (λ (s : Settled). IsIssued v.promises s.deferred) (λ s. IsIssued then.promises s.deferred) (λ s is. still-issued s.deferred is)
+    settled = All-weaker (λ (s : SettledDeferred). IsIssued v.promises s.deferred) (λ s. IsIssued then.promises s.deferred) (λ s is. still-issued s.deferred is)
         h.settled k.settled;
     apart = All-push (IsFoundIn now.made) h.made (made_of n p)
         (All-weaker (IsFoundIn h.made) (IsFoundIn now.made) (λ m is. record {
-          deferred = found-still (λ (m : Made). m.deferred) m.deferred h.made (made_of n p ∷ []) m is.deferred;
-          promise = found-still (λ (m : Made). m.promise) m.promise h.made (made_of n p ∷ []) m is.promise;
+          deferred = found-still (λ (m : MadeDeferred). m.deferred) m.deferred h.made (made_of n p ∷ []) m is.deferred;
+          promise = found-still (λ (m : MadeDeferred). m.promise) m.promise h.made (made_of n p ∷ []) m is.promise;
         }) h.made k.apart) here;
     unlinked = λ m above. links.links m ∙ k.unlinked m (omega (arith, above));
     deferreds = All-with_record (λ (d : Deferred). d.number) (record { number = n; promise = p }) (IsOpen now) (filter (λ d. not (d.promise == p)) v.promises.deferreds)
         (record { made = here.deferred; unsettled = new-settled })
         (All-filter (λ (d : Deferred). not (d.promise == p)) (IsOpen now) v.promises.deferreds
         (All-weaker (IsOpen h) (IsOpen now) (λ d is. record {
-          made = found-still (λ (m : Made). m.deferred) d.number h.made (made_of n p ∷ []) (made_of d.number d.promise) is.made;
+          made = found-still (λ (m : MadeDeferred). m.deferred) d.number h.made (made_of n p ∷ []) (made_of d.number d.promise) is.made;
           unsettled = is.unsettled;
         }) v.promises.deferreds k.deferreds));
     known = All-with_record (λ (r : Promise). r.value) (record { value = p; state = 0; reactions = [] }) (IsKnown now then.values) v.promises.promises new-known

@@ -37,7 +37,7 @@ use Rattle.napi_types.specs.runs.Choice.{waiting_hooks}
 use Rattle.napi_types.specs.runs.Machine.{Machine}
 use Rattle.napi_types.specs.runs.Step.{Step, move_step, has_room}
 use Rattle.napi_types.specs.all_runs.SettledPromises as told
-use Rattle.napi_types.specs.all_runs.SettledPromises.{Told, told_call, if_accepted, told_begun, told_by, told_of, state_given, finals_came}
+use Rattle.napi_types.specs.all_runs.SettledPromises.{PromiseFact, told_call, if_accepted, told_begun, told_by, told_of, state_given, finals_came}
 use Rattle.napi_types.proofs.plain.Conditions.{and-right}
 use Rattle.napi_types.proofs.environment.AnswersKeep.{course-parts}
 use Rattle.napi_types.proofs.environment.Cases.{asked-by}
@@ -58,25 +58,25 @@ use Rattle.napi_types.proofs.all_runs.PromiseBooks.{end-same}
 use Rattle.napi_types.proofs.all_runs.PromiseHistory as past
 use Rattle.napi_types.proofs.all_runs.PromiseHistory.{history, history-finals}
 use Rattle.napi_types.proofs.all_runs.PromiseReactions.{kept-phase, kept-finals, kept-ended}
-use Rattle.napi_types.proofs.all_runs.PromiseStates.{view, Kept}
+use Rattle.napi_types.proofs.all_runs.PromiseStates.{view, IsHistoryOf}
 use Rattle.napi_types.proofs.all_runs.PromiseTells.{Keeps, tells_one, tells_none, none-told, if-none, call-tells}
 use Rattle.napi_types.proofs.all_runs.SpentFrames.{StandsSpent, innermost-spent}
 
 -- WHAT HOLDS
 -- what was told, and the environment
-pub record Sound (ts : List Told) (e : Environment) : Type 0 where
-  pub kept : Kept (history ts) (view e)
+pub record Sound (ts : List PromiseFact) (e : Environment) : Type 0 where
+  pub kept : IsHistoryOf (history ts) (view e)
   pub spent : StandsSpent e
   pub fits : HandlesFit e
 
 -- whether an entry is that of a call
-abbrev pub is_call : What → Bool
-is_call (what.Call c) = true
-is_call (what.Host event) = false
+abbrev pub is_entry_of_call : What → Bool
+is_entry_of_call (what.Call c) = true
+is_entry_of_call (what.Host event) = false
 
 -- a call in the journal is made where a frame stands
 abbrev pub StandsAtCall : Machine → Step → Type 0
-StandsAtCall m s = s.side ≡ Journal → is_call s.entry.what ≡ true → m.env.frames ≢ []
+StandsAtCall m s = s.side ≡ Journal → is_entry_of_call s.entry.what ≡ true → m.env.frames ≢ []
 
 some-frames : (f : Frame) (fs gs : List Frame) → gs ≡ f ∷ fs → gs ≢ []
 some-frames f fs gs is none = let no : f ∷ fs ≡ [] = sym is ∙ none in cc
@@ -85,7 +85,7 @@ pub stands-at-call : (m : Machine) (s : Step) → Form m s → IsTrue s.may → 
 stands-at-call m _ (form.calls f fs stands c o local) may ours is = some-frames f fs m.env.frames stands
 stands-at-call m _ (form.shares f fs stands c o shared answers) may ours is = some-frames f fs m.env.frames stands
 stands-at-call m _ (form.ends f fs stands v cut b hubs its) may ours is = some-frames f fs m.env.frames stands
-stands-at-call m _ (form.happens alone event next) may ours is = let no : true ≡ false = sym is ∙ ap is_call (event-what m event may) in cc
+stands-at-call m _ (form.happens alone event next) may ours is = let no : true ≡ false = sym is ∙ ap is_entry_of_call (event-what m event may) in cc
 stands-at-call m _ (form.others x other same) may ours is = let no : ⊥ = cc in absurd no
 
 -- NOTHING IS TOLD
@@ -150,26 +150,26 @@ ended-view v cut e =
     let r = left-parts e new k in
     rw ((course-parts e new k.course).phase, k.made, k.values, r.promises, r.book) refl
 
-kept-left : (ts : List Told) (e : Environment) → Kept (history ts) (view e) → (c : Cause) (d : Option Duty)
+kept-left : (ts : List PromiseFact) (e : Environment) → IsHistoryOf (history ts) (view e) → (c : Cause) (d : Option Duty)
     → ((t : ℕ) → ticket_of d ≡ Some t → is_at is_owed e.book t ≡ false)
-    → Kept (history ts) (record (view e) { promises = promises_after c d e.promises; book = book_left c d e.book })
+    → IsHistoryOf (history ts) (record (view e) { promises = promises_after c d e.promises; book = book_left c d e.book })
 kept-left ts e k cause.Call d spent = k
 kept-left ts e k _ (Some (duty.Ticket t)) spent = kept-ended (history ts) (view e) t.0 _ (spent t.0 refl) (end-same t.0 e.book) k
 kept-left ts e k _ _ spent = k
 
-ended-tells : (ts : List Told) (m n : Machine) (v : Option HandleId) (cut : Option Why) (x : Entry) → Sound ts m.env → x.what ≡ what.Host host.End
+ended-tells : (ts : List PromiseFact) (m n : Machine) (v : Option HandleId) (cut : Option Why) (x : Entry) → Sound ts m.env → x.what ≡ what.Host host.End
     → Keeps ts (told_of m x n) (view (end_change v cut m.env).after)
 ended-tells ts m n v cut x sound is =
     none-told ts _ _ _ (tells-none m n x (what.Host host.End) is (λ m n x. refl)) (ended-view v cut m.env)
     (kept-left ts m.env sound.kept (cause_of m.env.frames) (duty_of m.env.frames) (λ t its. innermost-spent m.env.frames m.env.book t sound.spent its))
 
 -- CALLS
-asked-tells : (ts : List Told) (m : Machine) (c : Call) (n : ℕ) → Orderly m → Sound ts m.env
-    → (is_call (asked_change m.env c n).entry.what ≡ true → m.env.frames ≢ []) → GivesNew m.env (asked_change m.env c n).entry
+asked-tells : (ts : List PromiseFact) (m : Machine) (c : Call) (n : ℕ) → Orderly m → Sound ts m.env
+    → (is_entry_of_call (asked_change m.env c n).entry.what ≡ true → m.env.frames ≢ []) → GivesNew m.env (asked_change m.env c n).entry
     → Keeps ts (told_of m (asked_change m.env c n).entry (record m { env = (asked_change m.env c n).after; journal_length = m.journal_length + 1 }))
     (view (asked_change m.env c n).after)
 asked-tells ts m c n h sound =
-    asked-by m.env c n (λ d. (is_call d.entry.what ≡ true → m.env.frames ≢ []) → GivesNew m.env d.entry
+    asked-by m.env c n (λ d. (is_entry_of_call d.entry.what ≡ true → m.env.frames ≢ []) → GivesNew m.env d.entry
     → Keeps ts (told_of m d.entry (record m { env = d.after; journal_length = m.journal_length + 1 })) (view d.after))
     (λ stands fresh.
     call-tells ts m sound.kept h.hooked sound.fits.heap (scopes-stand m.env sound.fits (stands refl))
@@ -177,7 +177,7 @@ asked-tells ts m c n h sound =
     (λ receiver f args none stands fresh. none-told ts _ (view m.env) _ refl (enter-view receiver f args m.env) sound.kept)
 
 -- PHASES
-passed-tells : (ts : List Told) (m n : Machine) (x : Entry) (p : Phase) (o : Out) → x ≡ host_entry (event_before p) o → next_phase m.env.phase ≡ Some p
+passed-tells : (ts : List PromiseFact) (m n : Machine) (x : Entry) (p : Phase) (o : Out) → x ≡ host_entry (event_before p) o → next_phase m.env.phase ≡ Some p
     → p ≢ phase.Gone → Sound ts m.env → Keeps ts (told_of m x n) (view (in_phase p m.env))
 passed-tells ts m n x p o is next never sound = subst (λ y. Keeps ts (told_of m y n) (view (in_phase p m.env))) (sym is) (by p next never m.env.phase refl)
   where
@@ -199,7 +199,7 @@ passed-tells ts m n x p o is next never sound = subst (λ y. Keeps ts (told_of m
     by phase.Finals next never q here =
         let e : is_from_finals_on m.env.phase ≡ false = early m.env.phase next in
         tells_one told.FinalsCome (view (in_phase phase.Finals m.env)) (told.comes (sym sound.kept.late ∙ e))
-        (subst (λ (g : past.History). Kept g (view (in_phase phase.Finals m.env))) (sym (history-finals ts)) (kept-finals (history ts) (view m.env) e sound.kept))
+        (subst (λ (g : past.History). IsHistoryOf g (view (in_phase phase.Finals m.env))) (sym (history-finals ts)) (kept-finals (history ts) (view m.env) e sound.kept))
     by phase.Gone next never q here = absurd (never refl)
     by phase.Init next never q here = tells_none (view (in_phase phase.Init m.env)) (kept-phase (history ts) (view m.env) phase.Init (sooner m.env.phase phase.Init next refl) sound.kept)
     by phase.Live next never q here = tells_none (view (in_phase phase.Live m.env)) (kept-phase (history ts) (view m.env) phase.Live (sooner m.env.phase phase.Live next refl) sound.kept)
@@ -212,7 +212,7 @@ hint-given n r None is = let no : ⊥ = cc in absurd no
 hint-given n r (Some q) is = let same : q ≡ r = cc in ap (λ (q : Registration). q.hint) same
 
 -- EACH STEP
-pub promise-step : (ts : List Told) (m : Machine) (s : Step) → Orderly m → IsNewIn m s → StepCase m s → IsTrue s.may → StandsAtCall m s → Sound ts m.env
+pub promise-step : (ts : List PromiseFact) (m : Machine) (s : Step) → Orderly m → IsNewIn m s → StepCase m s → IsTrue s.may → StandsAtCall m s → Sound ts m.env
     → Keeps ts (told_of m s.entry s.after) (view s.after.env)
 promise-step ts m _ h new (calls c n may alone) ok stands sound = asked-tells ts m c n h sound (stands refl) (new refl)
 promise-step ts m s h new (ends v cut may alone) ok stands sound = ended-tells ts m s.after v cut s.entry sound (ended-ends v cut m.env).is

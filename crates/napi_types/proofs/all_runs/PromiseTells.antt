@@ -20,7 +20,7 @@ use Rattle.napi_types.specs.parts.Frames.{caller_of, duty_of, ticket_of}
 use Rattle.napi_types.specs.parts.Heap.{Heap, handle_value}
 use Rattle.napi_types.specs.parts.HeapChanges.{with_handle, with_linked}
 use Rattle.napi_types.specs.parts.HeapRefusals.{refusal_in}
-use Rattle.napi_types.specs.parts.Promises.{Promise, Deferred, promise_at, promise_state, state_of, is_reaction_of, reaction_promise, deferred_promise, promise_roots}
+use Rattle.napi_types.specs.parts.Promises.{Promise, Deferred, promise_at, promise_state, state_now, is_reaction_of, reaction_promise, deferred_promise, promise_roots}
 use Rattle.napi_types.specs.parts.Reach.{numbers}
 use Rattle.napi_types.specs.parts.References.{strong_values}
 use Rattle.napi_types.specs.parts.Scopes.{OpenHandle, held_by_frames}
@@ -36,7 +36,7 @@ use Rattle.napi_types.specs.environment.Refusals.{group_refusal, refusal_by_stat
 use Rattle.napi_types.specs.environment.Roots.{roots, reach}
 use Rattle.napi_types.specs.runs.Machine.{Machine}
 use Rattle.napi_types.specs.all_runs.SettledPromises as told
-use Rattle.napi_types.specs.all_runs.SettledPromises.{Told, Made, Settled, Added, told_read, told_call, if_accepted, MayBeTold}
+use Rattle.napi_types.specs.all_runs.SettledPromises.{PromiseFact, MadeDeferred, SettledDeferred, AddedReaction, told_read, told_call, if_accepted, MayBeTold}
 use Rattle.napi_types.proofs.plain.Found.{found-number, found-All, has-found}
 use Rattle.napi_types.proofs.plain.Lists.{none-first, none-last, not-when, not-unless, find-passes, any-map}
 use Rattle.napi_types.proofs.plain.Maps.{among-holds, has-right}
@@ -52,15 +52,15 @@ use Rattle.napi_types.proofs.all_runs.PromiseBooks.{others-same}
 use Rattle.napi_types.proofs.all_runs.PromiseChanges.{was-made, was-unsettled, kept-settles}
 use Rattle.napi_types.proofs.all_runs.PromiseHistory.{History, history, has-of, history-makes, history-settles, history-adds, history-tells}
 use Rattle.napi_types.proofs.all_runs.PromiseReactions.{promise-made, ticket-new, kept-adds, kept-collected}
-use Rattle.napi_types.proofs.all_runs.PromiseStates.{View, view, IsTold, added_under, IsKnown, Kept, true-or-false, told-at, new-promise, new-deferred, kept-makes}
+use Rattle.napi_types.proofs.all_runs.PromiseStates.{PromiseView, view, IsTold, added_under, IsKnown, IsHistoryOf, true-or-false, told-at, new-promise, new-deferred, kept-makes}
 use Rattle.napi_types.proofs.all_runs.QuietCalls.{finalizer-other, quiet-kept, quiet-same, quiet-of, Quiet, quiet-heap, thrown-links}
 
 -- what is told after what was told before: nothing, or one thing that may be; and what the environment holds then
-pub data Keeps (ts : List Told) : List Told → View → Type 0 where
-  tells_none : (v : View) → Kept (history ts) v → Keeps ts [] v
-  tells_one : (x : Told) (v : View) → MayBeTold ts x → Kept (history (ts ++ x ∷ [])) v → Keeps ts (x ∷ []) v
+pub data Keeps (ts : List PromiseFact) : List PromiseFact → PromiseView → Type 0 where
+  tells_none : (v : PromiseView) → IsHistoryOf (history ts) v → Keeps ts [] v
+  tells_one : (x : PromiseFact) (v : PromiseView) → MayBeTold ts x → IsHistoryOf (history (ts ++ x ∷ [])) v → Keeps ts (x ∷ []) v
 
-pub none-told : (ts news : List Told) (v w : View) → news ≡ [] → w ≡ v → Kept (history ts) v → Keeps ts news w
+pub none-told : (ts news : List PromiseFact) (v w : PromiseView) → news ≡ [] → w ≡ v → IsHistoryOf (history ts) v → Keeps ts news w
 none-told ts news v w none same k = rw (none, same) (tells_none v k)
 
 -- MOMENTS
@@ -86,7 +86,7 @@ some-there None is = let no : ⊥ = cc in absurd no
 some-there (Some x) is = (x, refl)
 
 -- EACH CALL THAT TELLS
-module _ (ts : List Told) (e : Environment) (k : Kept (history ts) (view e)) where
+module _ (ts : List PromiseFact) (e : Environment) (k : IsHistoryOf (history ts) (view e)) where
   abbrev h : History
   h = history ts
 
@@ -97,7 +97,7 @@ module _ (ts : List Told) (e : Environment) (k : Kept (history ts) (view e)) whe
       subst (λ w. Keeps ts (told.Makes n w ∷ []) (view (promising e n).after)) (sym same)
       (tells_one (told.Makes n p) (view (promising e n).after)
       (told.makes n p (new-deferred h (view e) n k fresh) (new-promise h (view e) n k fresh))
-      (subst (λ (g : History). Kept g (view (promising e n).after)) (sym (history-makes ts n p)) (kept-makes h (view e) n k fresh)))
+      (subst (λ (g : History). IsHistoryOf g (view (promising e n).after)) (sym (history-makes ts n p)) (kept-makes h (view e) n k fresh)))
 
   -- a deferred is settled
   settles-told : (n p v j : ℕ) → deferred_promise e.promises n ≡ Some p → is_from_finals_on e.phase ≡ false → (suc j ≡ resolved) ⊎ (suc j ≡ rejected)
@@ -105,7 +105,7 @@ module _ (ts : List Told) (e : Environment) (k : Kept (history ts) (view e)) whe
   settles-told n p v j given early state =
       tells_one (told.Settles n (suc j) v) _
       (told.settles n (suc j) v (was-made h (view e) n p v j k given early) (was-unsettled h (view e) n p v j k given early) state)
-      (subst (λ (g : History). Kept g (view (with_settlement n p v (suc j) e))) (sym (history-settles ts n (suc j) v)) (kept-settles h (view e) n p v j k given early))
+      (subst (λ (g : History). IsHistoryOf g (view (with_settlement n p v (suc j) e))) (sym (history-settles ts n (suc j) v)) (kept-settles h (view e) n p v j k given early))
 
   settling-tells : (n v j : ℕ) (o : Option ℕ) → deferred_promise e.promises n ≡ o → is_some o ≡ true → is_from_finals_on e.phase ≡ false
       → (suc j ≡ resolved) ⊎ (suc j ≡ rejected)
@@ -117,12 +117,12 @@ module _ (ts : List Told) (e : Environment) (k : Kept (history ts) (view e)) whe
   adds-told : (x entry payload : ℕ) (q : Promise) → promise_at e.promises x ≡ Some q → is_from_finals_on e.phase ≡ false
       → Keeps ts (told.Adds x (new_ticket e.book) ∷ []) (view (reacting e x entry payload).after)
   adds-told x entry payload q at early =
-      let r : Registration = reaction_of (caller_of e.frames) entry payload (state_of e.promises x) in
-      let same : state_of e.promises x ≡ q.state = ap (λ (o : Option Promise). unwrap_or (option_map (λ (r : Promise). r.state) o) 0) at in
+      let r : Registration = reaction_of (caller_of e.frames) entry payload (state_now e.promises x) in
+      let same : state_now e.promises x ≡ q.state = ap (λ (o : Option Promise). unwrap_or (option_map (λ (r : Promise). r.state) o) 0) at in
       let far : r.state ≡ reaction_state q.state = ap reaction_state same in
       tells_one (told.Adds x (new_ticket e.book)) (view (reacting e x entry payload).after)
       (told.adds x (new_ticket e.book) (promise-made h (view e) x q r k at early refl same far) (ticket-new h (view e) x q r k at early refl same far))
-      (subst (λ (g : History). Kept g (view (reacting e x entry payload).after)) (sym (history-adds ts x (new_ticket e.book)))
+      (subst (λ (g : History). IsHistoryOf g (view (reacting e x entry payload).after)) (sym (history-adds ts x (new_ticket e.book)))
       (kept-adds h (view e) x q r k at early refl same far))
 
   adding-tells : (x entry payload : ℕ) → is_some (promise_state e.promises x) ≡ true → is_from_finals_on e.phase ≡ false
@@ -145,15 +145,15 @@ module _ (ts : List Told) (e : Environment) (k : Kept (history ts) (view e)) whe
       sym (at-state is_owed e.book a.0.ticket it.registration it.there) ∙ ap (is_at is_owed e.book) a.1 ∙ spent in
       let begun : has_number t h.begun ≡ true = ap (λ m. has_number m h.begun) (sym a.1) ∙ not-false (has_number a.0.ticket h.begun) (sym it.owed ∙ gone) in
       tells_one (told.Tells t v) (view e) (told.tells t v r.value under begun (sym its.value ∙ value))
-      (subst (λ (g : History). Kept g (view e)) (sym (history-tells ts t v)) k)
+      (subst (λ (g : History). IsHistoryOf g (view e)) (sym (history-tells ts t v)) k)
     where
-      has-under : (added : List Added) (t p : ℕ) → added_under added t ≡ Some p → has (λ (a : Added). a.ticket) t added ≡ true
-      has-under added t p is = by (found (λ (a : Added). a.ticket) t added) refl is
+      has-under : (added : List AddedReaction) (t p : ℕ) → added_under added t ≡ Some p → has (λ (a : AddedReaction). a.ticket) t added ≡ true
+      has-under added t p is = by (found (λ (a : AddedReaction). a.ticket) t added) refl is
         where
-          by : (o : Option Added) → found (λ (a : Added). a.ticket) t added ≡ o → option_map (λ (a : Added). a.promise) o ≡ Some p
-              → has (λ (a : Added). a.ticket) t added ≡ true
+          by : (o : Option AddedReaction) → found (λ (a : AddedReaction). a.ticket) t added ≡ o → option_map (λ (a : AddedReaction). a.promise) o ≡ Some p
+              → has (λ (a : AddedReaction). a.ticket) t added ≡ true
           by None there is = let no : ⊥ = cc in absurd no
-          by (Some a) there is = has-of (λ (a : Added). a.ticket) t added a there
+          by (Some a) there is = has-of (λ (a : AddedReaction). a.ticket) t added a there
 
       not-false : (b : Bool) → not b ≡ false → b ≡ true
       not-false true is = refl
@@ -221,7 +221,7 @@ module _ (ts : List Told) (e : Environment) (k : Kept (history ts) (view e)) whe
           ∙ has-filter (λ (q : Promise). not (is_empty q.reactions)) p e.promises.promises r there (unempty t r.reactions is)) in
           reach-roots e.heap.values (roots e) p value (among-roots p root)
 
-  collected-kept : IsHooked e → Kept h (view (collected (reach e) e))
+  collected-kept : IsHooked e → IsHistoryOf h (view (collected (reach e) e))
   collected-kept hooked =
       let freed : ℕ → Bool = is_freed (reach e) in
       kept-collected h (view e) (reach e) (due_where (is_attached_to freed e.attachments) e.book) rooted
@@ -233,11 +233,11 @@ pub if-none : (s : Status) → if_accepted s [] ≡ []
 if-none status.Ok = refl
 if-none _ = refl
 
-refused-none : (s : Status) (xs : List Told) → s ≢ status.Ok → if_accepted s xs ≡ []
+refused-none : (s : Status) (xs : List PromiseFact) → s ≢ status.Ok → if_accepted s xs ≡ []
 refused-none status.Ok xs never = absurd (never refl)
 refused-none _ xs never = refl
 
-module _ (ts : List Told) (m : Machine) (k : Kept (history ts) (view m.env)) (hooked : IsHooked m.env) (fits : HeapFits m.env.heap)
+module _ (ts : List PromiseFact) (m : Machine) (k : IsHistoryOf (history ts) (view m.env)) (hooked : IsHooked m.env) (fits : HeapFits m.env.heap)
     (stands : m.env.heap.scopes ≢ []) (spent : (t : ℕ) → ticket_of (duty_of m.env.frames) ≡ Some t → is_at is_owed m.env.book t ≡ false) where
   -- the machine after a call
   abbrev machine_after : Call → Answer Environment → Machine

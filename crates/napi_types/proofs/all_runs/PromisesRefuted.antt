@@ -4,17 +4,17 @@ use Rattle.std.specs.List.{All}
 use Rattle.std.proofs.lemmas.List.Elements.{All-head}
 use Rattle.std.proofs.lemmas.Option.{same_Some}
 use Rattle.napi_types.specs.all_runs.SettledPromises as told
-use Rattle.napi_types.specs.all_runs.SettledPromises.{Told, Added, told_state, told_value, has_begun, EarlierHaveBegun, MayBeTold, SettlesPromises}
+use Rattle.napi_types.specs.all_runs.SettledPromises.{PromiseFact, AddedReaction, told_state, told_value, has_begun, EarlierHaveBegun, MayBeTold, SettlesPromises}
 
 -- promise 6 and its deferred 1 are made, and the reactions with the tickets 1 and 2 are added to it; and it is resolved with the value 7
-abbrev pending : List Told
+abbrev pending : List PromiseFact
 pending = told.Makes 1 6 ∷ told.Adds 6 1 ∷ told.Adds 6 2 ∷ []
 
-abbrev settled : List Told
+abbrev settled : List PromiseFact
 settled = pending ++ told.Settles 1 1 7 ∷ []
 
 -- a tale that the law admits has only what may be told
-pub at-end : (before : List Told) (e : Told) → SettlesPromises (before ++ e ∷ []) → MayBeTold before e
+pub at-end : (before : List PromiseFact) (e : PromiseFact) → SettlesPromises (before ++ e ∷ []) → MayBeTold before e
 at-end before e keeps = keeps.lawful before [] e refl
 
 -- a deferred that was settled is settled again, or one that was never made
@@ -55,6 +55,6 @@ never-another (told.tells t v p under begun value) =
 -- a reaction that is added never begins
 pub never-never : SettlesPromises (told.Makes 1 6 ∷ told.Adds 6 1 ∷ []) → ⊥
 never-never keeps =
-    let tale : List Told = told.Makes 1 6 ∷ told.Adds 6 1 ∷ [] in
-    let no : false ≡ true = All-head (λ (a : Added). has_begun tale a.ticket ≡ true) (record { ticket = 1; promise = 6 }) [] keeps.begun in
+    let tale : List PromiseFact = told.Makes 1 6 ∷ told.Adds 6 1 ∷ [] in
+    let no : false ≡ true = All-head (λ (a : AddedReaction). has_begun tale a.ticket ≡ true) (record { ticket = 1; promise = 6 }) [] keeps.begun in
     cc

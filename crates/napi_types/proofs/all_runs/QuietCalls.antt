@@ -33,91 +33,91 @@ use Rattle.napi_types.specs.environment.Registering.{registered_only, withdrawin
 use Rattle.napi_types.proofs.parts.AttachedTickets.{HoldsAttached-from, wrap_ticket-holds}
 use Rattle.napi_types.proofs.environment.Effects.{Finalizes}
 use Rattle.napi_types.proofs.environment.HookedSteps.{instance-finalizes, found-holds}
-use Rattle.napi_types.proofs.all_runs.PromiseBooks.{SameReactions, same-reactions, both-same, push-same, others-same, KeepsLinks, same-links, more-links, changed-links}
+use Rattle.napi_types.proofs.all_runs.PromiseBooks.{SameReactions, same-reactions, both-same, push-same, others-same, KeepsEachLink, same-links, more-links, changed-links}
 use Rattle.napi_types.proofs.all_runs.PromiseHistory.{History}
-use Rattle.napi_types.proofs.all_runs.PromiseStates.{View, view, Kept, kept-quiet}
+use Rattle.napi_types.proofs.all_runs.PromiseStates.{PromiseView, view, IsHistoryOf, kept-quiet}
 
 -- the values, how many were made and the book change, and of reactions and links nothing
-pub record Quiet (v w : View) : Type 0 where
+pub record Quiet (v w : PromiseView) : Type 0 where
   pub alone : w ≡ record v { made = w.made; values = w.values; book = w.book }
   pub grows : v.made ≤ w.made
-  pub links : KeepsLinks v.values w.values
+  pub links : KeepsEachLink v.values w.values
   pub book : SameReactions v.book w.book
 
-pub quiet-kept : (h : History) (v w : View) → Quiet v w → Kept h v → Kept h w
-quiet-kept h v w q k = subst (Kept h) (sym q.alone) (kept-quiet h v w.made w.values w.book q.grows q.links q.book k)
+pub quiet-kept : (h : History) (v w : PromiseView) → Quiet v w → IsHistoryOf h v → IsHistoryOf h w
+quiet-kept h v w q k = subst (IsHistoryOf h) (sym q.alone) (kept-quiet h v w.made w.values w.book q.grows q.links q.book k)
 
-pub quiet-same : (v : View) → Quiet v v
+pub quiet-same : (v : PromiseView) → Quiet v v
 quiet-same v = record { alone = refl; grows = omega arith; links = same-links v.values; book = same-reactions v.book }
 
-pub quiet-values : (v : View) (made : ℕ) (values : List Value) → v.made ≤ made → KeepsLinks v.values values → Quiet v (record v { made = made; values = values })
+pub quiet-values : (v : PromiseView) (made : ℕ) (values : List Value) → v.made ≤ made → KeepsEachLink v.values values → Quiet v (record v { made = made; values = values })
 quiet-values v made values grows links = record { alone = refl; grows = grows; links = links; book = same-reactions v.book }
 
-pub quiet-book : (v w : View) (book : Book) → SameReactions w.book book → Quiet v w → Quiet v (record w { book = book })
+pub quiet-book : (v w : PromiseView) (book : Book) → SameReactions w.book book → Quiet v w → Quiet v (record w { book = book })
 quiet-book v w book same q = record {
-  alone = ap (λ (u : View). record u { book = book }) q.alone;
+  alone = ap (λ (u : PromiseView). record u { book = book }) q.alone;
   grows = q.grows;
   links = q.links;
   book = both-same v.book w.book book q.book same;
 }
 
-pub quiet-push : (v w : View) (r : Registration) → r.cause ≢ cause.Reaction → Quiet v w → Quiet v (record w { book = with_registration r w.book })
+pub quiet-push : (v w : PromiseView) (r : Registration) → r.cause ≢ cause.Reaction → Quiet v w → Quiet v (record w { book = with_registration r w.book })
 quiet-push v w r other q = quiet-book v w (with_registration r w.book) (push-same r w.book other) q
 
 -- WITHDRAWN
-abbrev IsOther : Book → ℕ → Type 0
-IsOther book t = cause_at book t ≢ Some cause.Reaction
+abbrev IsNoReaction : Book → ℕ → Type 0
+IsNoReaction book t = cause_at book t ≢ Some cause.Reaction
 
-withdrawn-same : (book : Book) (t : ℕ) → IsOther book t → SameReactions book (moved_at made_withdrawn t book)
+withdrawn-same : (book : Book) (t : ℕ) → IsNoReaction book t → SameReactions book (moved_at made_withdrawn t book)
 withdrawn-same book t other =
-    others-same (moved made_withdrawn) (λ r. refl) (λ m. m == t) book (λ n is. subst (IsOther book) (sym (eqb-true n t is)) other)
+    others-same (moved made_withdrawn) (λ r. refl) (λ m. m == t) book (λ n is. subst (IsNoReaction book) (sym (eqb-true n t is)) other)
 
-quiet-withdrawing : (v : View) (book : Book) (o : Option ℕ) (a : Answer Environment) → a.after.book ≡ book → IfSome o (IsOther book) → Quiet v (view a.after)
+quiet-withdrawing : (v : PromiseView) (book : Book) (o : Option ℕ) (a : Answer Environment) → a.after.book ≡ book → IfSome o (IsNoReaction book) → Quiet v (view a.after)
     → Quiet v (view (withdrawing (registered_only book o) a).after)
 quiet-withdrawing v book None a same other q = q
 quiet-withdrawing v book (Some t) a same other q = by (is_at is_registered book t)
   where
     by : (b : Bool) → Quiet v (view (withdrawing (cond b (Some t) None) a).after)
     by true = quiet-book v (view a.after) (moved_at made_withdrawn t a.after.book)
-        (withdrawn-same a.after.book t (subst (λ b. IsOther b t) (sym same) other)) q
+        (withdrawn-same a.after.book t (subst (λ b. IsNoReaction b t) (sym same) other)) q
     by false = q
 
-pub finalizer-other : (book : Book) (t : ℕ) → Finalizes book t → IsOther book t
+pub finalizer-other : (book : Book) (t : ℕ) → Finalizes book t → IsNoReaction book t
 finalizer-other book t is its = let no : cause.Finalize ≡ cause.Reaction = same_Some cause.Finalize cause.Reaction (sym is ∙ its) in cc
 
-hook-other : (book : Book) (t : ℕ) → cause_at book t ≡ Some cause.Hook → IsOther book t
+hook-other : (book : Book) (t : ℕ) → cause_at book t ≡ Some cause.Hook → IsNoReaction book t
 hook-other book t is its = let no : cause.Hook ≡ cause.Reaction = same_Some cause.Hook cause.Reaction (sym is ∙ its) in cc
 
 module _ (e : Environment) (h : IsHooked e) where
-  wrap-other : (v : ℕ) → IfSome (wrap_ticket e.attachments v) (IsOther e.book)
+  wrap-other : (v : ℕ) → IfSome (wrap_ticket e.attachments v) (IsNoReaction e.book)
   wrap-other v =
       IfSome_then (wrap_ticket e.attachments v) (wrap_ticket-holds (Finalizes e.book) e.attachments v (HoldsAttached-from (Finalizes e.book) e.attachments h.attached))
       (λ t is. finalizer-other e.book t is)
 
-  instance-other : (addon : ℕ) → IfSome (instance_ticket e.instances addon) (IsOther e.book)
+  instance-other : (addon : ℕ) → IfSome (instance_ticket e.instances addon) (IsNoReaction e.book)
   instance-other addon = IfSome_then (instance_ticket e.instances addon) (instance-finalizes e.book e.instances addon h.instances) (λ t is. finalizer-other e.book t is)
 
-  hook_ticket-other : (addon entry argument : ℕ) → IfSome (hook_ticket addon entry argument e.hooks) (IsOther e.book)
+  hook_ticket-other : (addon entry argument : ℕ) → IfSome (hook_ticket addon entry argument e.hooks) (IsNoReaction e.book)
   hook_ticket-other addon entry argument =
       by (find (is_hook addon entry argument) e.hooks) (found-holds (StandsIn e.phase e.book) (is_hook addon entry argument) e.hooks h.hooks)
     where
-      by : (o : Option Hook) → IfSome o (StandsIn e.phase e.book) → IfSome (option_map (λ (x : Hook). x.ticket) o) (IsOther e.book)
+      by : (o : Option Hook) → IfSome o (StandsIn e.phase e.book) → IfSome (option_map (λ (x : Hook). x.ticket) o) (IsNoReaction e.book)
       by None s = tt
       by (Some x) s = hook-other e.book x.ticket s.cause
 
-  set_ticket-other : (n : ℕ) → IfSome (set_ticket n e.async_hooks) (IsOther e.book)
+  set_ticket-other : (n : ℕ) → IfSome (set_ticket n e.async_hooks) (IsNoReaction e.book)
   set_ticket-other n = by (async_hook n e.async_hooks) (found-holds (IsForHook e.book) (λ x. x.number == n) e.async_hooks h.async.given)
     where
-      of : (x : AsyncHook) (s : HookState) → IsForHook e.book x → IfSome (ticket_of_set x s) (IsOther e.book)
+      of : (x : AsyncHook) (s : HookState) → IsForHook e.book x → IfSome (ticket_of_set x s) (IsNoReaction e.book)
       of x Set is = hook-other e.book x.ticket is
       of x _ is = tt
 
-      by : (o : Option AsyncHook) → IfSome o (IsForHook e.book) → IfSome (option_and_then (λ x. ticket_of_set x x.state) o) (IsOther e.book)
+      by : (o : Option AsyncHook) → IfSome o (IsForHook e.book) → IfSome (option_and_then (λ x. ticket_of_set x x.state) o) (IsNoReaction e.book)
       by None is = tt
       by (Some x) is = of x x.state is
 
 -- VALUES
-abbrev NoLink : Value → Type 0
+abbrev pub NoLink : Value → Type 0
 NoLink w = w.link ≡ None
 
 one-unlinked : (w : Value) → NoLink w → All NoLink (w ∷ [])
@@ -130,12 +130,12 @@ made-unlinked n (b ∷ bs) = All-cons NoLink _ (made_after (n + 1) bs) refl (mad
 -- the heap after a call, told as what it keeps
 pub record HeapLinks (old new : Heap) : Type 0 where
   pub grows : old.made ≤ new.made
-  pub links : KeepsLinks old.values new.values
+  pub links : KeepsEachLink old.values new.values
 
 one-more : (heap new : Heap) (w : Value) → NoLink w → new.made ≡ heap.made + 1 → new.values ≡ heap.values ++ w ∷ [] → HeapLinks heap new
 one-more heap new w is made values = record {
   grows = omega (arith, made);
-  links = subst (KeepsLinks heap.values) (sym values) (more-links heap.values (w ∷ []) (one-unlinked w is));
+  links = subst (KeepsEachLink heap.values) (sym values) (more-links heap.values (w ∷ []) (one-unlinked w is));
 }
 
 pub thrown-links : (heap : Heap) (code : Option TextNo) (message : TextNo) → HeapLinks heap (with_thrown code message heap)
@@ -165,13 +165,13 @@ quiet-heap e heap l = quiet-values (view e) heap.made heap.values l.grows l.link
 
 -- EACH CALL
 -- all but those that make and settle promises, add reactions and collect
-abbrev pub is_quiet : Call → Bool
-is_quiet call.CreatePromise = false
-is_quiet (call.ResolveDeferred d v) = false
-is_quiet (call.RejectDeferred d v) = false
-is_quiet (call.AddReaction h entry payload) = false
-is_quiet call.Collect = false
-is_quiet c = true
+abbrev pub is_quiet_call : Call → Bool
+is_quiet_call call.CreatePromise = false
+is_quiet_call (call.ResolveDeferred d v) = false
+is_quiet_call (call.RejectDeferred d v) = false
+is_quiet_call (call.AddReaction h entry payload) = false
+is_quiet_call call.Collect = false
+is_quiet_call c = true
 
 module _ (e : Environment) where
   counted-quiet : (r : ℕ) (v : Option ℕ) → Quiet (view e) (view (counted_up r e v).after)
@@ -189,7 +189,7 @@ module _ (e : Environment) where
   registered-quiet : (r : Registration) → r.cause ≢ cause.Reaction → Quiet (view e) (view (record e { book = with_registration r e.book }))
   registered-quiet r other = quiet-push (view e) (view e) r other (quiet-same (view e))
 
-pub quiet-of : (e : Environment) (c : Call) (n : ℕ) → IsHooked e → is_quiet c ≡ true → Quiet (view e) (view (effect e c n).after)
+pub quiet-of : (e : Environment) (c : Call) (n : ℕ) → IsHooked e → is_quiet_call c ≡ true → Quiet (view e) (view (effect e c n).after)
 quiet-of e (call.Throw v) n h is = quiet-same (view e)
 quiet-of e (call.ThrowError code message) n h is = quiet-heap e (with_thrown code message e.heap) (thrown-links e.heap code message)
 quiet-of e call.IsExceptionPending n h is = quiet-same (view e)

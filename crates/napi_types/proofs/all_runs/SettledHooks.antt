@@ -50,7 +50,7 @@ use Rattle.napi_types.proofs.runs.Forms.{Form, form-of, shared-what, ended-what,
 use Rattle.napi_types.proofs.runs.NewNumbers.{next-new}
 use Rattle.napi_types.proofs.runs.SharedSteps.{shares-still, moves-still, others-still, end-stage, is_of_others, others-told}
 use Rattle.napi_types.proofs.runs.StepCases.{StepCase, calls, ends, opens, inits, begins, vanishes, shares, leaves, passes, moves, others, abandons, event_before, Passes, stage-moved}
-use Rattle.napi_types.proofs.all_runs.AbandonedHooks.{HooksTold, BegunBelow, told-step, abandoned-one, unfinished-count, told-numbers, NoneWaits, none-unsettled, none-counted, abandoned-none, still-none}
+use Rattle.napi_types.proofs.all_runs.AbandonedHooks.{HooksTold, BegunBelow, told-step, abandoned-one, unfinished-count, told-numbers, NoHookWaits, none-unsettled, none-counted, abandoned-none, still-none}
 use Rattle.napi_types.proofs.all_runs.HookRows as row
 use Rattle.napi_types.proofs.all_runs.HookRows.{HookNews, hook_news, HookStep, StepOfHooks, hook-step}
 use Rattle.napi_types.proofs.all_runs.NamedWorks.{InTwoParts, parts-of}
@@ -219,7 +219,7 @@ stage-was m s h (others x other) there = inl (sym (others-still m x other).stage
 
 -- then no hook waits, and none may begin
 record NoHookIsLeft (e : Environment) : Type 0 where
-  pub none : NoneWaits e.async_hooks
+  pub none : NoHookWaits e.async_hooks
   pub never : (t : ℕ) → MayBeginAt e t → ⊥
 
 abbrev NoneIsLeftAt : Machine → Type 0

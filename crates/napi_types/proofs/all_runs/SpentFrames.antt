@@ -24,7 +24,7 @@ use Rattle.napi_types.specs.runs.Step.{Step, shared_call_step, move_step}
 use Rattle.napi_types.proofs.plain.Found.{same-self}
 use Rattle.napi_types.proofs.parts.Books.{leaves-in}
 use Rattle.napi_types.proofs.parts.Moved.{IsUnder, registration_at-changed_where, registration_at-before, at-state}
-use Rattle.napi_types.proofs.parts.Moves.{Move, moved_by, unowed-moved, MovesKeep}
+use Rattle.napi_types.proofs.parts.Moves.{Move, registration_after, unowed-moved, MovesKeep}
 use Rattle.napi_types.proofs.environment.AnswersKeep.{answer-keeps}
 use Rattle.napi_types.proofs.environment.Cases.{asked-by}
 use Rattle.napi_types.proofs.environment.FrameChanges.{ended-keeps, enter_change-keeps}
@@ -44,14 +44,14 @@ abbrev pub StandsSpent : Environment → Type 0
 StandsSpent e = All (FrameSpent e.book) e.frames
 
 -- each move of the book keeps it
-moved-spent : (move : Move) (test : ℕ → Bool) (book : Book) (t : ℕ) → IsUnder IsNotOwed book t → IsUnder IsNotOwed (changed_where (moved_by move) test book) t
+moved-spent : (move : Move) (test : ℕ → Bool) (book : Book) (t : ℕ) → IsUnder IsNotOwed book t → IsUnder IsNotOwed (changed_where (registration_after move) test book) t
 moved-spent move test book t u = record {
-  registration = cond (test t) (moved_by move u.registration) u.registration;
-  there = registration_at-changed_where (moved_by move) test book t ∙ ap (option_map (λ r. cond (test t) (moved_by move r) r)) u.there;
+  registration = cond (test t) (registration_after move u.registration) u.registration;
+  there = registration_at-changed_where (registration_after move) test book t ∙ ap (option_map (λ r. cond (test t) (registration_after move r) r)) u.there;
   holds = by (test t);
 }
   where
-    by : (b : Bool) → is_owed (cond b (moved_by move u.registration) u.registration).state ≡ false
+    by : (b : Bool) → is_owed (cond b (registration_after move u.registration) u.registration).state ≡ false
     by true = unowed-moved move u.registration.state u.holds
     by false = u.holds
 
@@ -60,7 +60,7 @@ AllSpent fs book = All (FrameSpent book) fs
 
 spent-moves : (fs : List Frame) → MovesKeep (AllSpent fs)
 spent-moves fs move test book all =
-    All-weaker (FrameSpent book) (FrameSpent (changed_where (moved_by move) test book))
+    All-weaker (FrameSpent book) (FrameSpent (changed_where (registration_after move) test book))
     (λ f spent. IfSome_then (ticket_of f.duty) spent (moved-spent move test book)) fs all
 
 pushed-spent : (fs : List Frame) (r : Registration) (book : Book) → AllSpent fs book → AllSpent fs (with_registration r book)

@@ -23,7 +23,7 @@ use Rattle.napi_types.specs.parts.HeapChanges.{with_handle, with_thrown}
 use Rattle.napi_types.specs.parts.HeapRefusals.{refusal_in, kind_refusal, row_refusal}
 use Rattle.napi_types.specs.parts.Hooks.{hook_ticket, Hook}
 use Rattle.napi_types.specs.parts.NamedNumbers.{unknown_refusal}
-use Rattle.napi_types.specs.parts.Promises.{state_of}
+use Rattle.napi_types.specs.parts.Promises.{state_now}
 use Rattle.napi_types.specs.parts.PropertyCalls.{names_of}
 use Rattle.napi_types.specs.parts.References.{ReferenceMap}
 use Rattle.napi_types.specs.environment.Calls.{effect, answer}
@@ -215,7 +215,7 @@ does-keeps c e _ none (does.reacts v entry payload) = record {
   heap = same e.heap;
   references = omega arith;
   deferreds = omega arith;
-  book = adds _ _ (reaction-owed (state_of e.promises v)) refl (λ h. cc) refl;
+  book = adds _ _ (reaction-owed (state_now e.promises v)) refl (λ h. cc) refl;
 }
 does-keeps c e _ none (does.reads v is) = keeps-parts e _ _ _ (handled e.heap e.heap _ refl refl refl (omega arith)) (omega arith)
 does-keeps c e _ none (does.adds_hook entry argument) = keeps-book e _ _ _ (adds _ _ refl refl (λ h. cc) refl)

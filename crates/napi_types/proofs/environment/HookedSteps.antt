@@ -28,7 +28,7 @@ use Rattle.napi_types.specs.parts.Frames.{caller_of, cause_of, duty_of}
 use Rattle.napi_types.specs.parts.Heap.{handle_value}
 use Rattle.napi_types.specs.parts.Hooks.{Hook, is_hook, hook_ticket, last_hook, without_hook}
 use Rattle.napi_types.specs.parts.InstanceData.{InstanceData, Instances, instance_ticket}
-use Rattle.napi_types.specs.parts.Promises.{Promise, Promises, promise_at, state_of, reactions_of, is_reaction_of, promise_changed, promises_left, with_promise, with_settled, with_reaction, reactions_settled}
+use Rattle.napi_types.specs.parts.Promises.{Promise, Promises, promise_at, state_now, reactions_of, is_reaction_of, promise_changed, promises_left, with_promise, with_settled, with_reaction, reactions_settled}
 use Rattle.napi_types.specs.environment.Calls.{effect, answer}
 use Rattle.napi_types.specs.environment.Changes.{opening_change, init_change, call_change, is_fresh_result, with_none_waiting, book_in, in_phase, gone_change}
 use Rattle.napi_types.specs.environment.Collection.{collected, is_freed}
@@ -48,7 +48,7 @@ use Rattle.napi_types.proofs.plain.Maps.{All-with_record, among-holds, filter_al
 use Rattle.napi_types.proofs.parts.AttachedTickets.{HoldsAttached, HoldsAttached-from, tickets_in-holds, tickets_where-holds, wrap_ticket-holds, HoldsAttached-with_wrap, HoldsAttached-without_wrap, HoldsAttached-with_attached, HoldsAttached-left_on, HoldsAttached-weaker}
 use Rattle.napi_types.proofs.parts.Books.{withdrawn-leaves, leaves-in}
 use Rattle.napi_types.proofs.parts.Moved.{at-state, at-cause, registration_at-new}
-use Rattle.napi_types.proofs.parts.Moves.{Settles, moved_by, settled-moves}
+use Rattle.napi_types.proofs.parts.Moves.{Settles, registration_after, settled-moves}
 use Rattle.napi_types.proofs.environment.AnswersKeep.{course-parts}
 use Rattle.napi_types.proofs.environment.Effects as does
 use Rattle.napi_types.proofs.environment.AsyncHooked.{distinct-none, async-below, async-book, async-unhooked, async-begun, async-abandoned, async-removed, async-plain, async-added}
@@ -192,7 +192,7 @@ hooked-settled e state tickets theirs h =
     let test : ℕ → Bool = λ n. has_number n tickets in
     hooked-book e _
     (subst (λ b. BookGoes e.phase every_ticket e.book b) (sym (settled-moves state tickets e.book))
-    (others-go e.phase cause.Reaction (λ is. cc) (moved_by (Settles state)) (λ r. refl) test e.book theirs)) h
+    (others-go e.phase cause.Reaction (λ is. cc) (registration_after (Settles state)) (λ r. refl) test e.book theirs)) h
 
 -- FINALIZERS OF CALLS
 -- what is attached changes in one place
@@ -386,7 +386,7 @@ does-hooked c e _ other (does.settles n v state p is) h =
     (hooked-promises settled (with_settled n p state e.promises)
     (reactions-changed settled.book (λ r. record r { state = state }) (λ r has. has) p e.promises.promises k.reactions) k)
 does-hooked c e _ other (does.reacts v entry payload) h =
-    let r : Registration = reaction_of (caller_of e.frames) entry payload (state_of e.promises v) in
+    let r : Registration = reaction_of (caller_of e.frames) entry payload (state_now e.promises v) in
     let more : Environment = record e { book = with_registration r e.book } in
     let k : IsHooked more = hooked-book e _ (push-goes e.phase r e.book (λ is. cc)) h in
     let t : ℕ = new_ticket e.book in

@@ -35,7 +35,7 @@ use Rattle.napi_types.specs.environment.Entering.{enter_change, asked_change}
 use Rattle.napi_types.specs.environment.Environment.{Environment, OpenedWith, new_environment, with_heap}
 use Rattle.napi_types.specs.environment.ExceptionCalls.{with_thrown_error}
 use Rattle.napi_types.specs.environment.HookCalls.{unhooked}
-use Rattle.napi_types.specs.environment.Promised.{has_linked, IsOfLinked, IsLinked, IsPromised}
+use Rattle.napi_types.specs.environment.Promised.{has_linked, IsDeferredOfLinked, IsLinkedPromise, IsPromised}
 use Rattle.napi_types.specs.environment.Registering.{withdrawing}
 use Rattle.napi_types.specs.environment.Registry.{registry_of}
 use Rattle.napi_types.specs.environment.Roots.{reach}
@@ -103,54 +103,54 @@ heap-linked addon heap c k = λ n is. is
 
 -- AN ENVIRONMENT CHANGES
 -- its values do
-with-values : (e : Environment) (vs : List Value) → KeepsLinked e.heap.values vs → IsPromised e → All (IsOfLinked vs) e.promises.deferreds
-with-values e vs keeps h = All-weaker (IsOfLinked e.heap.values) (IsOfLinked vs) (λ d is. keeps d.promise is) e.promises.deferreds h.linked
+with-values : (e : Environment) (vs : List Value) → KeepsLinked e.heap.values vs → IsPromised e → All (IsDeferredOfLinked vs) e.promises.deferreds
+with-values e vs keeps h = All-weaker (IsDeferredOfLinked e.heap.values) (IsDeferredOfLinked vs) (λ d is. keeps d.promise is) e.promises.deferreds h.linked
 
 -- nothing of it changes
 pub still-promised : (old new : Environment) → new.heap.values ≡ old.heap.values → new.promises ≡ old.promises → IsPromised old → IsPromised new
 still-promised old new values promises h = record {
-  linked = subst (λ (vs : List Value). All (IsOfLinked vs) new.promises.deferreds) (sym values)
-      (subst (λ (p : Promises). All (IsOfLinked old.heap.values) p.deferreds) (sym promises) h.linked);
-  promises = subst (λ (vs : List Value). All (IsLinked vs) new.promises.promises) (sym values)
-      (subst (λ (p : Promises). All (IsLinked old.heap.values) p.promises) (sym promises) h.promises);
+  linked = subst (λ (vs : List Value). All (IsDeferredOfLinked vs) new.promises.deferreds) (sym values)
+      (subst (λ (p : Promises). All (IsDeferredOfLinked old.heap.values) p.deferreds) (sym promises) h.linked);
+  promises = subst (λ (vs : List Value). All (IsLinkedPromise vs) new.promises.promises) (sym values)
+      (subst (λ (p : Promises). All (IsLinkedPromise old.heap.values) p.promises) (sym promises) h.promises);
 }
 
 -- the values of promises are as they were
 still-linked : (vs : List Value) (change : Promise → Promise) → ((r : Promise) → (change r).value ≡ r.value) → (n : ℕ) (ps : List Promise)
-    → All (IsLinked vs) ps → All (IsLinked vs) (promise_changed change n ps)
+    → All (IsLinkedPromise vs) ps → All (IsLinkedPromise vs) (promise_changed change n ps)
 still-linked vs change same n ps all =
-    All-map (IsLinked vs) (λ (r : Promise). cond (r.value == n) (change r) r) ps
-    (All-weaker (IsLinked vs) (λ (r : Promise). IsLinked vs (cond (r.value == n) (change r) r)) (λ r is. by r (r.value == n) is) ps all)
+    All-map (IsLinkedPromise vs) (λ (r : Promise). cond (r.value == n) (change r) r) ps
+    (All-weaker (IsLinkedPromise vs) (λ (r : Promise). IsLinkedPromise vs (cond (r.value == n) (change r) r)) (λ r is. by r (r.value == n) is) ps all)
   where
-    by : (r : Promise) (b : Bool) → IsLinked vs r → IsLinked vs (cond b (change r) r)
+    by : (r : Promise) (b : Bool) → IsLinkedPromise vs r → IsLinkedPromise vs (cond b (change r) r)
     by r true is = ap (λ k. has_linked k vs) (same r) ∙ is
     by r false is = is
 
-promises-weaker : (e : Environment) (vs : List Value) → KeepsLinked e.heap.values vs → IsPromised e → All (IsLinked vs) e.promises.promises
-promises-weaker e vs keeps h = All-weaker (IsLinked e.heap.values) (IsLinked vs) (λ r is. keeps r.value is) e.promises.promises h.promises
+promises-weaker : (e : Environment) (vs : List Value) → KeepsLinked e.heap.values vs → IsPromised e → All (IsLinkedPromise vs) e.promises.promises
+promises-weaker e vs keeps h = All-weaker (IsLinkedPromise e.heap.values) (IsLinkedPromise vs) (λ r is. keeps r.value is) e.promises.promises h.promises
 
 -- the promises that stay
-left-promises : (alive : List ℕ) (vs : List Value) (ps : List Promise) → All (IsLinked vs) ps
-    → All (IsLinked (those_of alive vs)) (filter (λ r. not (is_freed alive r.value)) ps)
-left-promises alive vs [] all = All-nil (IsLinked (those_of alive vs))
-left-promises alive vs (r ∷ ps) all = by (has_number r.value alive) refl (left-promises alive vs ps (All-tail (IsLinked vs) r ps all))
+left-promises : (alive : List ℕ) (vs : List Value) (ps : List Promise) → All (IsLinkedPromise vs) ps
+    → All (IsLinkedPromise (those_of alive vs)) (filter (λ r. not (is_freed alive r.value)) ps)
+left-promises alive vs [] all = All-nil (IsLinkedPromise (those_of alive vs))
+left-promises alive vs (r ∷ ps) all = by (has_number r.value alive) refl (left-promises alive vs ps (All-tail (IsLinkedPromise vs) r ps all))
   where
-    by : (b : Bool) → has_number r.value alive ≡ b → All (IsLinked (those_of alive vs)) (filter (λ x. not (is_freed alive x.value)) ps)
-        → All (IsLinked (those_of alive vs)) (filter (λ x. not (is_freed alive x.value)) (r ∷ ps))
+    by : (b : Bool) → has_number r.value alive ≡ b → All (IsLinkedPromise (those_of alive vs)) (filter (λ x. not (is_freed alive x.value)) ps)
+        → All (IsLinkedPromise (those_of alive vs)) (filter (λ x. not (is_freed alive x.value)) (r ∷ ps))
     by true stays rest =
-        rw stays (All-cons (IsLinked (those_of alive vs)) r _ (stays-linked alive r.value vs stays (All-head (IsLinked vs) r ps all)) rest)
+        rw stays (All-cons (IsLinkedPromise (those_of alive vs)) r _ (stays-linked alive r.value vs stays (All-head (IsLinkedPromise vs) r ps all)) rest)
     by false goes rest = rw goes rest
 
 -- the deferreds of values that stay
-left-linked : (alive : List ℕ) (vs : List Value) (ds : List Deferred) → All (IsOfLinked vs) ds
-    → All (IsOfLinked (those_of alive vs)) (filter (λ d. not (is_freed alive d.promise)) ds)
-left-linked alive vs [] all = All-nil (IsOfLinked (those_of alive vs))
-left-linked alive vs (d ∷ ds) all = by (has_number d.promise alive) refl (left-linked alive vs ds (All-tail (IsOfLinked vs) d ds all))
+left-linked : (alive : List ℕ) (vs : List Value) (ds : List Deferred) → All (IsDeferredOfLinked vs) ds
+    → All (IsDeferredOfLinked (those_of alive vs)) (filter (λ d. not (is_freed alive d.promise)) ds)
+left-linked alive vs [] all = All-nil (IsDeferredOfLinked (those_of alive vs))
+left-linked alive vs (d ∷ ds) all = by (has_number d.promise alive) refl (left-linked alive vs ds (All-tail (IsDeferredOfLinked vs) d ds all))
   where
-    by : (b : Bool) → has_number d.promise alive ≡ b → All (IsOfLinked (those_of alive vs)) (filter (λ x. not (is_freed alive x.promise)) ds)
-        → All (IsOfLinked (those_of alive vs)) (filter (λ x. not (is_freed alive x.promise)) (d ∷ ds))
+    by : (b : Bool) → has_number d.promise alive ≡ b → All (IsDeferredOfLinked (those_of alive vs)) (filter (λ x. not (is_freed alive x.promise)) ds)
+        → All (IsDeferredOfLinked (those_of alive vs)) (filter (λ x. not (is_freed alive x.promise)) (d ∷ ds))
     by true stays rest =
-        rw stays (All-cons (IsOfLinked (those_of alive vs)) d _ (stays-linked alive d.promise vs stays (All-head (IsOfLinked vs) d ds all)) rest)
+        rw stays (All-cons (IsDeferredOfLinked (those_of alive vs)) d _ (stays-linked alive d.promise vs stays (All-head (IsDeferredOfLinked vs) d ds all)) rest)
     by false goes rest = rw goes rest
 
 new-linked : (n k : ℕ) (vs : List Value) → has_linked n (vs ++ linked_value n k None ∷ []) ≡ true
@@ -180,16 +180,16 @@ does-promised c e _ (does.promises n) h =
     let new : List Value = e.heap.values ++ linked_value v promise_tag None ∷ [] in
     let made : Deferred = record { number = n; promise = v } in
     record {
-      linked = All-with_record (λ (d : Deferred). d.number) made (IsOfLinked new) (filter (λ d. not (d.promise == v)) e.promises.deferreds)
+      linked = All-with_record (λ (d : Deferred). d.number) made (IsDeferredOfLinked new) (filter (λ d. not (d.promise == v)) e.promises.deferreds)
           (new-linked v promise_tag e.heap.values)
-          (All-filter (λ (d : Deferred). not (d.promise == v)) (IsOfLinked new) e.promises.deferreds
-          (All-weaker (IsOfLinked e.heap.values) (IsOfLinked new) (λ d is. keeps-more e.heap.values _ d.promise is) e.promises.deferreds h.linked));
-      promises = All-with_record (λ (r : Promise). r.value) (record { value = v; state = 0; reactions = [] }) (IsLinked new) e.promises.promises
+          (All-filter (λ (d : Deferred). not (d.promise == v)) (IsDeferredOfLinked new) e.promises.deferreds
+          (All-weaker (IsDeferredOfLinked e.heap.values) (IsDeferredOfLinked new) (λ d is. keeps-more e.heap.values _ d.promise is) e.promises.deferreds h.linked));
+      promises = All-with_record (λ (r : Promise). r.value) (record { value = v; state = 0; reactions = [] }) (IsLinkedPromise new) e.promises.promises
           (new-linked v promise_tag e.heap.values) (promises-weaker e new (keeps-more e.heap.values _) h);
     }
 does-promised c e _ (does.settles n v state p is) h = record {
-  linked = All-filter (λ (d : Deferred). not (d.number == n)) (IsOfLinked (value_changed p _ e.heap.values)) e.promises.deferreds
-      (All-weaker (IsOfLinked e.heap.values) (IsOfLinked (value_changed p _ e.heap.values))
+  linked = All-filter (λ (d : Deferred). not (d.number == n)) (IsDeferredOfLinked (value_changed p _ e.heap.values)) e.promises.deferreds
+      (All-weaker (IsDeferredOfLinked e.heap.values) (IsDeferredOfLinked (value_changed p _ e.heap.values))
       (λ d here. keeps-changed p _ e.heap.values (λ x. refl) (λ x. refl) d.promise here) e.promises.deferreds h.linked);
   promises = still-linked (value_changed p (with_link (handle_value e.heap v)) e.heap.values) (λ r. record r { state = state }) (λ r. refl) p e.promises.promises
       (promises-weaker e _ (keeps-changed p _ e.heap.values (λ x. refl) (λ x. refl)) h);
@@ -241,7 +241,7 @@ asked-promised e c n h =
 without-promised : (t : ℕ) (e : Environment) → IsPromised e → IsPromised (record e { promises = without_reaction t e.promises })
 without-promised t e h = record {
   linked = h.linked;
-  promises = All-map (IsLinked e.heap.values) (λ (r : Promise). record r { reactions = filter (λ m. not (m == t)) r.reactions }) e.promises.promises h.promises;
+  promises = All-map (IsLinkedPromise e.heap.values) (λ (r : Promise). record r { reactions = filter (λ m. not (m == t)) r.reactions }) e.promises.promises h.promises;
 }
 
 after-promised : (c : Cause) (d : Option Duty) (e : Environment) → IsPromised e → IsPromised (record e { promises = promises_after c d e.promises })
@@ -251,8 +251,8 @@ after-promised _ _ e h = h
 
 pub opening-promised : (given : OpenedWith) → IsPromised (new_environment given)
 opening-promised given = record {
-  linked = All-nil (IsOfLinked (new_environment given).heap.values);
-  promises = All-nil (IsLinked (new_environment given).heap.values);
+  linked = All-nil (IsDeferredOfLinked (new_environment given).heap.values);
+  promises = All-nil (IsLinkedPromise (new_environment given).heap.values);
 }
 
 pub ended-promised : (v : Option HandleId) (cut : Option Why) (e : Environment) → IsPromised e → IsPromised (end_change v cut e).after

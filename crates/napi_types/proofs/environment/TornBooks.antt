@@ -12,7 +12,7 @@ use Rattle.napi_types.specs.environment.Moments.{is_tearing}
 use Rattle.napi_types.proofs.plain.Found.{same-self, next-above}
 use Rattle.napi_types.proofs.parts.Books.{NoneRegistered, lowest-below}
 use Rattle.napi_types.proofs.parts.Moved.{registration_at-changed_where, cause_at-changed_where}
-use Rattle.napi_types.proofs.parts.Moves.{moved_by, Begins, Ends, registered-before, due-moved, MovesKeep}
+use Rattle.napi_types.proofs.parts.Moves.{registration_after, Begins, Ends, registered-before, due-moved, MovesKeep}
 use Rattle.napi_types.proofs.environment.FrameChanges.{book_left}
 use Rattle.napi_types.proofs.environment.Registrations.{registered-holds, none-kept, torn-new, asked-kept, left-kept}
 
@@ -46,12 +46,12 @@ none-more book = record { causes = λ n. refl; registered = λ n h. h; none = λ
 -- every move leads to such a book
 more-kept : (old : Book) → MovesKeep (NoneMore old)
 more-kept old move test book more = record {
-  causes = λ n. cause_at-changed_where (moved_by move) (λ r. refl) test book n ∙ more.causes n;
-  registered = λ n is. more.registered n (was-at is_registered (moved_by move) test book n (λ r there. registered-before move r.state) is);
+  causes = λ n. cause_at-changed_where (registration_after move) (λ r. refl) test book n ∙ more.causes n;
+  registered = λ n is. more.registered n (was-at is_registered (registration_after move) test book n (λ r there. registered-before move r.state) is);
   none = λ none. none-kept move test book (more.none none);
   due = λ none n is.
       more.due none n
-      (was-at is_due (moved_by move) test book n
+      (was-at is_due (registration_after move) test book n
       (λ r there. due-moved move r.state (registered-holds (λ q. is_registered q.state ≡ false) n book r there (more.none none))) is);
 }
 

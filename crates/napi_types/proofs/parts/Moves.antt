@@ -28,20 +28,20 @@ hint_by (Settles state) r = cond (is_registered r.state) state r.hint
 hint_by _ r = r.hint
 
 -- the registration after a move
-abbrev pub moved_by : Move → Registration → Registration
-moved_by move r = record r { hint = hint_by move r; state = next move r.state }
+abbrev pub registration_after : Move → Registration → Registration
+registration_after move r = record r { hint = hint_by move r; state = next move r.state }
 
 -- a fact of registrations that every move keeps
 abbrev pub KeptByMoves : (Registration → Type 0) → Type 0
-KeptByMoves P = (move : Move) (r : Registration) → P r → P (moved_by move r)
+KeptByMoves P = (move : Move) (r : Registration) → P r → P (registration_after move r)
 
 -- a statement on books that every move of tickets keeps
 abbrev pub MovesKeep : (Book → Type 0) → Type 0
-MovesKeep Q = (move : Move) (test : ℕ → Bool) (book : Book) → Q book → Q (changed_where (moved_by move) test book)
+MovesKeep Q = (move : Move) (test : ℕ → Bool) (book : Book) → Q book → Q (changed_where (registration_after move) test book)
 
 -- as is what holds of every registration
 pub each-kept : (P : Registration → Type 0) → KeptByMoves P → MovesKeep (λ book. All P book)
-each-kept P moves move test book all = All-changed_where P (moved_by move) (moves move) test book all
+each-kept P moves move test book all = All-changed_where P (registration_after move) (moves move) test book all
 
 -- two changes of registrations, one after the other, are one
 changed_from-both : (first second : Registration → Registration) (test : ℕ → Bool) (k : ℕ) (rs : Book)
@@ -60,7 +60,7 @@ pub changed_where-both : (first second : Registration → Registration) (test : 
 changed_where-both first second test book = changed_from-both first second test 1 book
 
 -- reactions whose promise is settled make this move
-settled-move : (state : ℕ) (r : Registration) → made_settled state r ≡ moved_by (Settles state) r
+settled-move : (state : ℕ) (r : Registration) → made_settled state r ≡ registration_after (Settles state) r
 settled-move state r = by r.state refl
   where
     by : (s : TicketState) → r.state ≡ s → cond (is_registered r.state) (moved made_due (record r { hint = state })) r
@@ -72,8 +72,8 @@ settled-move state r = by r.state refl
     by Withdrawn is = rw (ap is_registered is) (ap (λ s. record r { state = s }) (is ∙ sym (ap made_due is)))
 
 pub settled-moves : (state : ℕ) (tickets : List ℕ) (book : Book)
-    → reactions_settled state tickets book ≡ changed_where (moved_by (Settles state)) (λ n. has_number n tickets) book
-settled-moves state tickets book = changed_where-same (made_settled state) (moved_by (Settles state)) (settled-move state) (λ n. has_number n tickets) book
+    → reactions_settled state tickets book ≡ changed_where (registration_after (Settles state)) (λ n. has_number n tickets) book
+settled-moves state tickets book = changed_where-same (made_settled state) (registration_after (Settles state)) (settled-move state) (λ n. has_number n tickets) book
 
 -- WHAT EVERY MOVE KEEPS
 -- none is registered that was not

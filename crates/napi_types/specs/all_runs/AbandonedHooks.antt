@@ -24,12 +24,12 @@ pub record AddedHook : Type 0 where
   pub ticket : ℕ
 
 -- the one that an accepted `add_async_cleanup_hook` adds
-abbrev pub hook_of : Out → Option Duty → List AddedHook
-hook_of (out.AsyncHook h) (Some (duty.Ticket t)) = record { number = h.0; ticket = t.0 } ∷ []
-hook_of _ _ = []
+abbrev pub hook_told : Out → Option Duty → List AddedHook
+hook_told (out.AsyncHook h) (Some (duty.Ticket t)) = record { number = h.0; ticket = t.0 } ∷ []
+hook_told _ _ = []
 
 abbrev pub hook_added : What → Out → Option Duty → List AddedHook
-hook_added (what.Call (call.AddAsyncCleanupHook entry argument)) o made = hook_of o made
+hook_added (what.Call (call.AddAsyncCleanupHook entry argument)) o made = hook_told o made
 hook_added _ o made = []
 
 -- the number of the one that an accepted `remove_async_cleanup_hook` removes

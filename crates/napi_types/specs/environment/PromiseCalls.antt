@@ -14,7 +14,7 @@ use Rattle.napi_types.specs.parts.Book.{Registration, TicketState, Registered, D
 use Rattle.napi_types.specs.parts.Frames.{caller_of, duty_of, ticket_of}
 use Rattle.napi_types.specs.parts.Heap.{Heap, handle_value}
 use Rattle.napi_types.specs.parts.HeapChanges.{handle_of, with_handle, with_linked}
-use Rattle.napi_types.specs.parts.Promises.{Promises, promise_state, state_of, reactions_of, reaction_promise, deferred_promise, with_promise, with_settled, with_reaction, reactions_settled}
+use Rattle.napi_types.specs.parts.Promises.{Promises, promise_state, state_now, reactions_of, reaction_promise, deferred_promise, with_promise, with_settled, with_reaction, reactions_settled}
 use Rattle.napi_types.specs.parts.Values.{value_changed, with_link, link_of}
 use Rattle.napi_types.specs.environment.Environment.{Environment, in_heap}
 use Rattle.napi_types.specs.environment.Group.{Group}
@@ -77,7 +77,7 @@ with_reaction_to v e = record e { promises = with_reaction v (new_ticket e.book)
 -- `add_reaction` adds a reaction of the addon that makes the call to a promise, and registers it
 abbrev pub reacting : Environment → ℕ → ℕ → ℕ → Answer Environment
 reacting e v entry payload =
-    registering (reaction_of (caller_of e.frames) entry payload (state_of e.promises v)) (accepts out.Nothing (with_reaction_to v e))
+    registering (reaction_of (caller_of e.frames) entry payload (state_now e.promises v)) (accepts out.Nothing (with_reaction_to v e))
 
 -- the promise of which the innermost frame is a reaction
 abbrev pub reacted_promise : Environment → Option ℕ

@@ -11,14 +11,14 @@ abbrev pub has_linked : ℕ → List Value → Bool
 has_linked n values = list_any (λ v. (v.number == n) && is_linked v.body) values
 
 -- a deferred is that of such a value
-abbrev pub IsOfLinked : List Value → Deferred → Type 0
-IsOfLinked values d = has_linked d.promise values ≡ true
+abbrev pub IsDeferredOfLinked : List Value → Deferred → Type 0
+IsDeferredOfLinked values d = has_linked d.promise values ≡ true
 
 -- and so is a promise
-abbrev pub IsLinked : List Value → Promise → Type 0
-IsLinked values p = has_linked p.value values ≡ true
+abbrev pub IsLinkedPromise : List Value → Promise → Type 0
+IsLinkedPromise values p = has_linked p.value values ≡ true
 
 -- each deferred that is not settled, and each promise, is that of a value which is there, and which may have a hidden child
 pub record IsPromised (e : Environment) : Type 0 where
-  pub linked : All (IsOfLinked e.heap.values) e.promises.deferreds
-  pub promises : All (IsLinked e.heap.values) e.promises.promises
+  pub linked : All (IsDeferredOfLinked e.heap.values) e.promises.deferreds
+  pub promises : All (IsLinkedPromise e.heap.values) e.promises.promises

@@ -36,8 +36,8 @@ abbrev pub promise_state : Promises → ℕ → Option ℕ
 promise_state p v = option_map (λ r. r.state) (promise_at p v)
 
 -- the state that a reaction is given which is added now; a value that is no promise is refused before it is read so
-abbrev pub state_of : Promises → ℕ → ℕ
-state_of p v = unwrap_or (promise_state p v) 0
+abbrev pub state_now : Promises → ℕ → ℕ
+state_now p v = unwrap_or (promise_state p v) 0
 
 -- the tickets of its reactions; a value that is no promise has none
 abbrev pub reactions_of : Promises → ℕ → List ℕ

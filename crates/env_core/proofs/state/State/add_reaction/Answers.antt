@@ -1,6 +1,6 @@
 use Rattle.std.proofs.Common.{◌∙◌, not, refl, ap}
 use Rattle.napi_types.specs.environment.PromiseCalls.{reaction_of}
-use Rattle.napi_types.specs.parts.Promises.{state_of}
+use Rattle.napi_types.specs.parts.Promises.{state_now}
 use Rattle.napi_reference.specs.ReferencePlaces.{map_of}
 use Rattle.env_values.proofs.HandleValues.{given-live}
 use Rattle.env_core.specs.contracts.state.State.{the_view}
@@ -48,7 +48,7 @@ pub invariant_of-self-2 : goal.invariant_of-self-2
 invariant_of-self-2 c =
     let s = c.self.inside in
     let ps = s.registry.parts.promises in
-    let r = reaction_of c.caller-addon.result c.args.entry c.args.payload (state_of ps c.in-Some.value.0) in
+    let r = reaction_of c.caller-addon.result c.args.entry c.args.payload (state_now ps c.in-Some.value.0) in
     rw c.in_ok-duty.ensures.reacts (
       c.self.invariant.0,
       c.self.invariant.1,

@@ -1,6 +1,6 @@
 use Rattle.std.proofs.Common.{◌∙◌, option_map}
 use Rattle.napi_reference.specs.ReferencePlaces.{map_of}
-use Rattle.env_registry.specs.Registering.{registration_of, ticket_for}
+use Rattle.env_registry.specs.Registering.{finalizer_registration, ticket_for}
 use Rattle.env_core.specs.contracts.state.State.{the_view}
 use Rattle.env_values.specs.SeenValues.{heap_of}
 use Rattle.env_core.proofs.Attaching.{attached-kept, attachments-kept}
@@ -26,7 +26,7 @@ invariant_of-self-2 c =
     let s = c.self.inside in
     let i = c.self.invariant.0 in
     let g = c.make_held in
-    let f = option_map registration_of c.finalizer_if-asked.result in (
+    let f = option_map finalizer_registration c.finalizer_if-asked.result in (
       record {
         live = g.ensures.keeps.scopes.live;
         frames = given-frames s.store g.new.store s.scopes g.new.scopes _ c.in_ok-value.out c.in_ok-value.ensures.gives ∙ i.frames;
@@ -48,7 +48,7 @@ returns-clause-ok c =
     let s = c.self.inside in
     let g = c.make_held in
     let v = c.in_ok-value.value.0 in
-    let f = option_map registration_of c.finalizer_if-asked.result in
+    let f = option_map finalizer_registration c.finalizer_if-asked.result in
     rw (← c.self.view_is)
     (rw (
       c.attach-made.ensures.attached,

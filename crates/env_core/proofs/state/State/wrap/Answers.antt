@@ -1,7 +1,7 @@
 use Rattle.std.proofs.Common.{◌∙◌, ◌||◌, is_some, option_map, refl, sym, ap}
 use Rattle.napi_types.specs.parts.Attachments.{Wrapped, wrap_of}
 use Rattle.napi_reference.specs.ReferencePlaces.{map_of}
-use Rattle.env_registry.specs.Registering.{registration_of, ticket_for}
+use Rattle.env_registry.specs.Registering.{finalizer_registration, ticket_for}
 use Rattle.env_core.specs.contracts.state.State.{the_view}
 use Rattle.env_core.proofs.Attaching.{wrap-refused, wrap-unrefused, untold, attached-with_wrap}
 use Rattle.env_core.proofs.Registered.{begun-asked, refers-live, wrap-answers}
@@ -51,7 +51,7 @@ invariant_of-self-2 c =
     let i = c.self.invariant.0 in
     let v = c.in-Ok.value.0 in
     let live = c.in-Ok.ensures.live in
-    let f = option_map registration_of c.finalizer_if-asked.result in (
+    let f = option_map finalizer_registration c.finalizer_if-asked.result in (
       record {
         live = i.live;
         frames = i.frames;
@@ -71,7 +71,7 @@ returns-clause-ok c =
     let s = c.self.inside in
     let k = c.in-Ok.ensures in
     let v = c.in-Ok.value.0 in
-    let f = option_map registration_of c.finalizer_if-asked.result in
+    let f = option_map finalizer_registration c.finalizer_if-asked.result in
     rw (← c.self.view_is)
     (rw (c.wrap-made.ensures.wrapped, c.wrap-made.ensures.made, c.reserve_wrap.ensures.same)
     (wrap-answers (the_view s) s.store k.sound s.registry.parts.attachments s.registry.parts.book c.self.invariant.1 c.args.object v k.live k.number (map_of s.references) (map_of c.refer_if.new.references)

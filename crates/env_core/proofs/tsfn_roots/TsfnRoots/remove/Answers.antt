@@ -3,18 +3,18 @@ use Rattle.std.proofs.lemmas.List.{length-set}
 use Rattle.std.proofs.lemmas.Fn.{filter_same}
 use Rattle.napi_types.proofs.plain.Maps.{filter_all}
 use Rattle.env_core.specs.TsfnRooting.{kept_roots, is_of_another}
-use Rattle.env_core.proofs.TsfnRooting.{is_left, left-kept, rows-left, rows-closed, closed-kept, AreOfOthers, root-dropped}
+use Rattle.env_core.proofs.TsfnRooting.{is_left_row, left-kept, rows-left, rows-closed, closed-kept, AreOfOthers, root-dropped}
 use Rattle.env_core.proofs.tsfn_roots.TsfnRoots.remove.Goals as goal
 
 pub invariant_of-self : goal.invariant_of-self
 invariant_of-self c =
     let n = c.args.function.0 in
-    rw (filter_same _ (is_left n) _ (λ x b f' k. search rules) _ _ c.retain.ensures.filtered) (rows-left n c.self.inside.rows.items c.self.inside.rises c.if-not-self.true)
+    rw (filter_same _ (is_left_row n) _ (λ x b f' k. search rules) _ _ c.retain.ensures.filtered) (rows-left n c.self.inside.rows.items c.self.inside.rises c.if-not-self.true)
 
 pub returns-then-not-self : goal.returns-then-not-self
 returns-then-not-self c =
     let n = c.args.function.0 in
-    ap kept_roots (filter_same _ (is_left n) _ (λ x b f' k. search rules) _ _ c.retain.ensures.filtered)
+    ap kept_roots (filter_same _ (is_left_row n) _ (λ x b f' k. search rules) _ _ c.retain.ensures.filtered)
     ∙ left-kept n c.self.inside.rows.items ∙ ap (filter (is_of_another n)) c.self.view_is
 
 pub invariant_of-self-then-self-len : goal.invariant_of-self-then-self-len

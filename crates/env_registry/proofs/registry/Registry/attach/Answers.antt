@@ -1,12 +1,12 @@
 use Rattle.std.proofs.Common.{option_map}
-use Rattle.env_registry.specs.Registering.{registration_of}
+use Rattle.env_registry.specs.Registering.{finalizer_registration}
 use Rattle.env_registry.proofs.Keeping.{kept-attached, next-free}
 use Rattle.env_registry.proofs.registry.Registry.attach.Goals as goal
 
 pub attach-requires-clause-absent : goal.attach-requires-clause-absent
 attach-requires-clause-absent c =
     let s = c.self.inside in
-    next-free s.wraps.attachments s.book.book (option_map registration_of c.args.finalizer) c.in-Some.ticket.0 c.self.invariant c.in-Some.ensures.ticket
+    next-free s.wraps.attachments s.book.book (option_map finalizer_registration c.args.finalizer) c.in-Some.ticket.0 c.self.invariant c.in-Some.ensures.ticket
 
 pub invariant_of-self : goal.invariant_of-self
 invariant_of-self c =

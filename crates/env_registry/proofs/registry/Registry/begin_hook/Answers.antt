@@ -1,14 +1,14 @@
 use Rattle.std.proofs.Common.{◌==◌, subst, sym}
 use Rattle.napi_types.specs.parts.Book.{made_due_and_begun}
 use Rattle.napi_types.specs.parts.Hooks.{last_hook}
-use Rattle.env_registry.specs.KeptRegistry.{IsKept}
+use Rattle.env_registry.specs.KeptRegistry.{IsKeptRegistry}
 use Rattle.env_registry.proofs.Keeping.{kept-moved, if-told-uncalled, last-waits}
 use Rattle.env_registry.proofs.registry.Registry.begin_hook.Goals as goal
 
 pub invariant_of-self-2 : goal.invariant_of-self-2
 invariant_of-self-2 c =
     let s = c.self.inside in
-    (subst (IsKept s.wraps.attachments) (sym c.take_ticket.ensures.begun) (kept-moved s.wraps.attachments s.book.book made_due_and_begun (λ m. m == c.in_ok-ticket.ticket.0) c.self.invariant))
+    (subst (IsKeptRegistry s.wraps.attachments) (sym c.take_ticket.ensures.begun) (kept-moved s.wraps.attachments s.book.book made_due_and_begun (λ m. m == c.in_ok-ticket.ticket.0) c.self.invariant))
 
 pub returns-clause-uncalled : goal.returns-clause-uncalled
 returns-clause-uncalled c =

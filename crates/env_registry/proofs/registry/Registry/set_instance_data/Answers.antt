@@ -2,7 +2,7 @@ use Rattle.std.proofs.Common.{◌∙◌, length, option_map, ap, arith, refl}
 use Rattle.napi_types.specs.declared.ids.Ticket.{Ticket}
 use Rattle.napi_types.specs.environment.Registering.{registered_only}
 use Rattle.env_registry.specs.KeptRegistry.{KeptRegistry}
-use Rattle.env_registry.specs.Registering.{registration_of, duty_if, withdrawn_if}
+use Rattle.env_registry.specs.Registering.{finalizer_registration, duty_if, withdrawn_if}
 use Rattle.env_registry.proofs.Keeping.{kept-asked, kept-dropped}
 use Rattle.env_registry.proofs.Withdrawn.{length-withdrawn, gone-is, next-is}
 use Rattle.env_registry.proofs.registry.Registry.set_instance_data.Goals as goal
@@ -29,12 +29,12 @@ returns-clause-made c =
     let had = option_map (λ (t : Ticket). t.0) c.ticket.result in
     let gone = gone-is book c.reserve_if.new.book.book c.withdraw_if-dropped.new.book.book had c.reserve_if.ensures.same c.withdraw_if-dropped.ensures.withdrawn in
     rw (← c.self.view_is)
-    (c.duty_of.ensures ∙ ap duty_if (next-is book c.withdraw_if-dropped.new.book.book (registered_only book had) _ (option_map registration_of c.args.finalizer) gone c.register_if-ticket.ensures.ticket))
+    (c.duty_of.ensures ∙ ap duty_if (next-is book c.withdraw_if-dropped.new.book.book (registered_only book had) _ (option_map finalizer_registration c.args.finalizer) gone c.register_if-ticket.ensures.ticket))
 
 pub returns-clause-set : goal.returns-clause-set
 returns-clause-set c =
     let book = c.self.inside.book.book in
     let had = option_map (λ (t : Ticket). t.0) c.ticket.result in
     let gone = gone-is book c.reserve_if.new.book.book c.withdraw_if-dropped.new.book.book had c.reserve_if.ensures.same c.withdraw_if-dropped.ensures.withdrawn in
-    let made = next-is book c.withdraw_if-dropped.new.book.book (registered_only book had) _ (option_map registration_of c.args.finalizer) gone c.register_if-ticket.ensures.ticket in
+    let made = next-is book c.withdraw_if-dropped.new.book.book (registered_only book had) _ (option_map finalizer_registration c.args.finalizer) gone c.register_if-ticket.ensures.ticket in
     rw (← c.self.view_is) (rw (c.set.ensures, made, c.register_if-ticket.ensures.registered, gone, c.ticket.ensures) refl)
