@@ -1,17 +1,14 @@
 -- What is found by one key and by another, and what is counted.
-use Rattle.std.proofs.Common.{◌≡◌, ◌∙◌, ℕ, suc, ◌+◌, ◌<◌, ◌==◌, ◌||◌, Bool, true, false, not, cond, List, [], ◌∷◌, length, filter, find, Option, Some, None, is_some, refl, ap, sym, arith}
+use Rattle.std.proofs.Common.{◌≡◌, ◌∙◌, ℕ, suc, ◌+◌, ◌<◌, ◌==◌, ◌||◌, Bool, true, false, not, cond, List, [], ◌∷◌, length, filter, find, Some, is_some, refl, ap, sym, arith}
 use Rattle.std.specs.List.{All, count_by, list_any}
 use Rattle.std.proofs.lemmas.List.Sums.{sum_by-cons}
 use Rattle.std.proofs.lemmas.List.Elements.{All-head, All-tail}
 use Rattle.napi_types.specs.plain.Lists.{found, has, as_map}
 use Rattle.napi_types.proofs.plain.Found.{IsRising, same-self, same-tells, apart-below, apart-above, found-first, found-later, found-All, found-number, found-as_map, rising-as_map, has-found}
 use Rattle.napi_types.proofs.plain.Conditions.{alike}
+use Rattle.napi_types.proofs.plain.Options.{some-of}
 
 -- WHAT IS FOUND
-pub some : {A : Type 0} (o : Option A) → is_some o ≡ true → (x : A) × (o ≡ Some x)
-some None is = let no : ⊥ = cc in absurd no
-some (Some x) is = (x, refl)
-
 module _ {A : Type 0} where
   -- what one key finds is found by its other key, though maybe not first
   pub found-other : (f g : A → ℕ) (n : ℕ) (xs : List A) (x : A) → found f n xs ≡ Some x → is_some (found g (g x) xs) ≡ true
@@ -42,14 +39,14 @@ module _ {A : Type 0} where
     where
       there : is_some (found f n (as_map g xs)) ≡ true → is_some (found f n xs) ≡ true
       there is =
-          let x = some (found f n (as_map g xs)) is in
+          let x = some-of (found f n (as_map g xs)) is in
           let mapped : found g (g x.0) (as_map g xs) ≡ Some x.0 = found-rising f g n (as_map g xs) x.0 (rising-as_map g xs) x.1 in
           let plain : found g (g x.0) xs ≡ Some x.0 = sym (found-as_map g (g x.0) xs) ∙ mapped in
           ap (λ k. is_some (found f k xs)) (sym (found-number f n (as_map g xs) x.0 x.1)) ∙ found-other g f (g x.0) xs x.0 plain
 
       back : is_some (found f n xs) ≡ true → is_some (found f n (as_map g xs)) ≡ true
       back is =
-          let x = some (found f n xs) is in
+          let x = some-of (found f n xs) is in
           let mapped : found g (g x.0) (as_map g xs) ≡ Some x.0 = found-as_map g (g x.0) xs ∙ each n x.0 x.1 in
           ap (λ k. is_some (found f k (as_map g xs))) (sym (found-number f n xs x.0 x.1)) ∙ found-other g f (g x.0) (as_map g xs) x.0 mapped
 

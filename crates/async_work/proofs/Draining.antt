@@ -1,19 +1,20 @@
 -- The first work that waits, and all works that wait as they are cancelled one by one.
 use Rattle.std.proofs.Common.{◌≡◌, ◌∙◌, ℕ, ◌<◌, ◌==◌, ◌||◌, true, not, List, [], ◌∷◌, ◌++◌, length, map, filter, Some, None, IfSome, refl, ap, sym, arith, append_assoc, append-nil}
+use Rattle.std.proofs.lemmas.Option.{same_Some}
 use Rattle.napi_types.specs.plain.Lists.{has_number, head, tail, singleton}
 use Rattle.napi_types.specs.parts.Pool.{WorkPool, cancelled_at, drained}
 use Rattle.napi_types.specs.parts.Works.{cancelled_outcome}
 use Rattle.napi_types.proofs.plain.Found.{same-self}
 use Rattle.async_work.specs.Draining.{IsDraining}
-use Rattle.async_work.proofs.Linking.{same-some, if-some}
+use Rattle.async_work.proofs.Linking.{if-some}
 
 pub first-of : (ns : List ℕ) (n : ℕ) → head ns ≡ Some n → ns ≡ n ∷ tail ns
 first-of [] n is = let no : ⊥ = cc in absurd no
-first-of (m ∷ ms) n is = ap (λ k. k ∷ ms) (same-some m n is)
+first-of (m ∷ ms) n is = ap (λ k. k ∷ ms) (same_Some m n is)
 
 pub has-first : (ns : List ℕ) (n : ℕ) → head ns ≡ Some n → has_number n ns ≡ true
 has-first [] n is = let no : ⊥ = cc in absurd no
-has-first (m ∷ ms) n is = ap (λ b. b || has_number n ms) (ap (λ k. k == n) (same-some m n is) ∙ same-self n)
+has-first (m ∷ ms) n is = ap (λ b. b || has_number n ms) (ap (λ k. k == n) (same_Some m n is) ∙ same-self n)
 
 pub none-first : (ns : List ℕ) → head ns ≡ None → ns ≡ []
 none-first [] is = refl

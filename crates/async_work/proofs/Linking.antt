@@ -5,6 +5,7 @@ use Rattle.std.specs.Option.{option_map_or}
 use Rattle.generation_slab.specs.HeldPlaces.{HeldValue}
 use Rattle.std.proofs.lemmas.List.Sums.{sum_by-cons, sum_by-append, get_or-le-sum_by}
 use Rattle.std.proofs.lemmas.List.Elements.{All-append, All-cons, All-nil, All-head, All-tail}
+use Rattle.std.proofs.lemmas.Option.{same_Some}
 use Rattle.napi_types.proofs.plain.Found.{same-self, same-tells, apart-above}
 use Rattle.async_work.specs.WorkPlaces.{Placed, place_at, with_place_number}
 use Rattle.async_work.specs.Queue.{QueueStage, StillQueued, Runs, Ended, Done, NumberedWork, EndedWorkSeen, waiting_job, has_ended, is_done_in_queue, with_stage, queue_work_at, queue_stage_at, queue_id_at, ended_at}
@@ -12,16 +13,13 @@ use Rattle.async_work.specs.KeptPool.{StandsInQueue, KeepsJob, IsNumberOf, AreLi
 use Rattle.async_work.proofs.Ids.{ReplacedPlace}
 use Rattle.async_work.proofs.Queueing.{Restaged, stage-restaged, id-restaged, id-other, entry-push, stage-push, stage-past, stage-in_line, id-in_line}
 
-pub same-some : {A : Type 0} (x y : A) → Some x ≡ Some y → x ≡ y
-same-some x y is = cc
-
 if-none : {A : Type 0} (P : A → Type 0) (o : Option A) → o ≡ None → IfSome o P
 if-none P None is = tt
 if-none P (Some x) is = let no : ⊥ = cc in absurd no
 
 pub if-some : {A : Type 0} (P : A → Type 0) (o : Option A) (x : A) → o ≡ Some x → IfSome o P → P x
 if-some P None x is holds = let no : ⊥ = cc in absurd no
-if-some P (Some y) x is holds = subst P (same-some y x is) holds
+if-some P (Some y) x is holds = subst P (same_Some y x is) holds
 
 pub if-more : {A : Type 0} (P Q : A → Type 0) (o : Option A) → ((x : A) → P x → Q x) → IfSome o P → IfSome o Q
 if-more P Q None more holds = tt
@@ -56,11 +54,11 @@ linked-created places others line id p linked absent change none held = record {
 }
   where
     named : (m : ℕ) (q : Placed) (b : Bool) → cond b (Some p) (place_at places m) ≡ Some q → IfSome q.number (λ n. IsNumberOf line m n)
-    named m q true told = if-none (λ n. IsNumberOf line m n) q.number (ap (λ (r : Placed). r.number) (sym (same-some p q told)) ∙ none)
+    named m q true told = if-none (λ n. IsNumberOf line m n) q.number (ap (λ (r : Placed). r.number) (sym (same_Some p q told)) ∙ none)
     named m q false told = linked.named m q told
 
     keeps : (m : ℕ) (q : Placed) (b : Bool) → cond b (Some p) (place_at places m) ≡ Some q → q.number ≡ None → q.job ≡ Some q.spec
-    keeps m q true told empty = let same : p ≡ q = same-some p q told in subst (λ (r : Placed). r.job ≡ Some r.spec) same held
+    keeps m q true told empty = let same : p ≡ q = same_Some p q told in subst (λ (r : Placed). r.job ≡ Some r.spec) same held
     keeps m q false told empty = linked.held m q told empty
 
     stands : (n : ℕ) (e : NumberedWork) → StandsInQueue places n e → StandsInQueue others n e
@@ -90,7 +88,7 @@ linked-deleted places others line id p linked is change done = record {
       where
         other : id ≡ e.id → ⊥
         other same =
-            let one : p ≡ old.place = same-some p old.place (sym is ∙ ap (place_at places) same ∙ old.there) in
+            let one : p ≡ old.place = same_Some p old.place (sym is ∙ ap (place_at places) same ∙ old.there) in
             let its : p.number ≡ Some n = ap (λ (r : Placed). r.number) one ∙ old.numbered in
             let over : is_done_in_queue e.stage ≡ true = ap is_done_in_queue (sym (stage-of line n e at)) ∙ done n its in
             cc
@@ -129,21 +127,21 @@ linked-queued places others line id n p e linked new is none change its waits_fo
     named : (m : ℕ) (q : Placed) (b : Bool) → (id == m) ≡ b → cond b (Some (with_place_number n p)) (place_at places m) ≡ Some q
         → IfSome q.number (λ k. IsNumberOf (line ++ e ∷ []) m k)
     named m q true same told =
-        let one : with_place_number n p ≡ q = same-some (with_place_number n p) q told in
+        let one : with_place_number n p ≡ q = same_Some (with_place_number n p) q told in
         subst (λ (r : Placed). IfSome r.number (λ k. IsNumberOf (line ++ e ∷ []) m k)) one
         (omega (arith, new, longer), λ _. here ∙ ap (λ k. Some k) (same-tells id m same))
     named m q false same told = if-more (λ k. IsNumberOf line m k) (λ k. IsNumberOf (line ++ e ∷ []) m k) q.number (still m) (linked.named m q told)
 
     keeps : (m : ℕ) (q : Placed) (b : Bool) → cond b (Some (with_place_number n p)) (place_at places m) ≡ Some q → q.number ≡ None → q.job ≡ Some q.spec
     keeps m q true told empty =
-        let one : with_place_number n p ≡ q = same-some (with_place_number n p) q told in
+        let one : with_place_number n p ≡ q = same_Some (with_place_number n p) q told in
         let no : ⊥ = let number : Some n ≡ None = ap (λ (r : Placed). r.number) one ∙ empty in cc in absurd no
     keeps m q false told empty = linked.held m q told empty
 
     placed : (m : ℕ) (x : NumberedWork) → is_done_in_queue x.stage ≡ false → (b : Bool) → (length line + 1 == m) ≡ b → cond b (Some e)
         (queue_work_at line m) ≡ Some x
         → StandsInQueue others m x
-    placed m x unfinished true same told = subst (λ (y : NumberedWork). StandsInQueue others m y) (same-some e x told) (record {
+    placed m x unfinished true same told = subst (λ (y : NumberedWork). StandsInQueue others m y) (same_Some e x told) (record {
       place = with_place_number n p;
       there = change.at e.id ∙ ap (λ b. cond b (Some (with_place_number n p)) (place_at places e.id)) (ap (λ k. id == k) its ∙ same-self id);
       numbered = ap (λ k. Some k) (new ∙ same-tells (length line + 1) m same);
@@ -153,7 +151,7 @@ linked-queued places others line id n p e linked new is none change its waits_fo
       where
         other : (old : StandsInQueue places m x) → id ≡ x.id → ⊥
         other old one =
-            let first : p ≡ old.place = same-some p old.place (sym is ∙ ap (place_at places) one ∙ old.there) in
+            let first : p ≡ old.place = same_Some p old.place (sym is ∙ ap (place_at places) one ∙ old.there) in
             let no : None ≡ Some m = sym none ∙ ap (λ (r : Placed). r.number) first ∙ old.numbered in
             cc
 
@@ -196,7 +194,7 @@ linked-restaged places line others n e s linked change no_job before_open = reco
         (queue_work_at line m) ≡ Some x
         → StandsInQueue places m x
     placed m x unfinished true same told =
-        let one : with_stage s e ≡ x = same-some (with_stage s e) x told in
+        let one : with_stage s e ≡ x = same_Some (with_stage s e) x told in
         let stays : is_done_in_queue s ≡ false = ap is_done_in_queue (sym (stage-in_line e.id s)) ∙ ap (λ (y : NumberedWork). is_done_in_queue y.stage) one
         ∙ unfinished in
         let old : StandsInQueue places n e = linked.placed n e change.there (before_open stays) in
@@ -252,7 +250,7 @@ out-created places others line finished id p none change out = record {
     by : (n m : ℕ) (q : Placed) (b : Bool) → cond b (Some p) (place_at places m) ≡ Some q → q.number ≡ Some n
         → (r : Placed) × (place_at places m ≡ Some r) × (r.number ≡ Some n) × (r.spec ≡ q.spec)
     by n m q true told number =
-        let it : None ≡ Some n = sym none ∙ ap (λ (r : Placed). r.number) (same-some p q told) ∙ number in
+        let it : None ≡ Some n = sym none ∙ ap (λ (r : Placed). r.number) (same_Some p q told) ∙ number in
         let no : ⊥ = cc in absurd no
     by n m q false told number = (q, told, number, refl)
 
@@ -286,8 +284,8 @@ out-queued places others line finished id n p e out new change waits_still = rec
     by : (k m : ℕ) (q : Placed) → ended_at line k ≡ true → (b : Bool) → cond b (Some (with_place_number n p)) (place_at places m) ≡ Some q → q.number ≡ Some k
         → (r : Placed) × (place_at places m ≡ Some r) × (r.number ≡ Some k) × (r.spec ≡ q.spec)
     by k m q ended true told number =
-        let it : Some n ≡ Some k = ap (λ (r : Placed). r.number) (same-some (with_place_number n p) q told) ∙ number in
-        let here : n ≡ k = same-some n k it in
+        let it : Some n ≡ Some k = ap (λ (r : Placed). r.number) (same_Some (with_place_number n p) q told) ∙ number in
+        let here : n ≡ k = same_Some n k it in
         let over : ended_at line k ≡ false = stage-past has_ended line k (omega (arith, new, here)) in
         let no : ⊥ = cc in absurd no
     by k m q ended false told number = (q, told, number, refl)
@@ -393,8 +391,8 @@ keeps-job places line n e linked at unfinished stands o number is =
     same id p there its =
         let named = if-some (λ k. IsNumberOf line id k) p.number n its (linked.named id p there) in
         let its_id : queue_id_at line n ≡ Some id = named.1 (ap is_done_in_queue (stage-of line n e at) ∙ unfinished) in
-        let one : id ≡ e.id = same-some id e.id (sym its_id ∙ ap (option_map (λ (x : NumberedWork). x.id)) at) in
-        same-some p stands.place (sym there ∙ ap (place_at places) one ∙ stands.there)
+        let one : id ≡ e.id = same_Some id e.id (sym its_id ∙ ap (option_map (λ (x : NumberedWork). x.id)) at) in
+        same_Some p stands.place (sym there ∙ ap (place_at places) one ∙ stands.there)
 
 -- what stands in the list of ended works has ended
 pub first-ended : (places : List (HeldValue Placed)) (line : List NumberedWork) (o : EndedWorkSeen) (finished : List EndedWorkSeen)

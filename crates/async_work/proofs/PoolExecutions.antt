@@ -7,7 +7,8 @@ use Rattle.napi_types.specs.parts.Works.{Execution}
 use Rattle.napi_types.proofs.plain.Found.{same-self, same-tells, found-same, found-with_record, found-as_map, found-filter, found-number, found-All, rising-with_record, rising-as_map, rising-filter, has-found}
 use Rattle.async_work.specs.Queue.{Done, NumberedWork, runner, queue_work_at, runner_at, listed_execution, executions_listed, executions}
 use Rattle.napi_types.proofs.plain.Counted.{listed-All, listed-rising, found-listed}
-use Rattle.async_work.proofs.CountingWorks.{found-other, has-as_map, length-without, some}
+use Rattle.napi_types.proofs.plain.Options.{some-of}
+use Rattle.async_work.proofs.CountingWorks.{found-other, has-as_map, length-without}
 
 abbrev worker : Execution → ℕ
 worker x = x.worker
@@ -76,7 +77,7 @@ pub found-worker : (line : List NumberedWork) → AreApart line → (n w : ℕ) 
     → found worker w (executions_listed line) ≡ Some (execution w n)
 found-worker line apart n w is =
     let here : found executed_work n (executions_listed line) ≡ Some (execution w n) = found-work line n ∙ ap (option_map (λ v. execution v n)) is in
-    let there = some (found worker w (executions_listed line)) (found-other executed_work worker n (executions_listed line) (execution w n) here) in
+    let there = some-of (found worker w (executions_listed line)) (found-other executed_work worker n (executions_listed line) (execution w n) here) in
     let told = told-worker line w there.0 there.1 in
     let one : there.0.work ≡ n = apart there.0.work n w told.1 is in
     there.1 ∙ ap (λ v. Some (execution v there.0.work)) told.0 ∙ ap (λ k. Some (execution w k)) one

@@ -2,6 +2,7 @@
 use Rattle.std.proofs.Common.{◌≡◌, ◌∙◌, ℕ, ◌==◌, ◌||◌, Bool, true, false, cond, List, [], ◌∷◌, map, Option, Some, None, IfSome, is_some, option_map, refl, ap, sym, subst}
 use Rattle.std.specs.List.{list_any}
 use Rattle.std.specs.Option.{option_and_then, option_map_or, is_none}
+use Rattle.std.proofs.lemmas.Option.{same_Some}
 use Rattle.napi_types.specs.declared.call.JobSpec.{JobSpec}
 use Rattle.napi_types.specs.declared.status.Status.{Status}
 use Rattle.napi_types.specs.declared.status.Status.TheVariants as status
@@ -21,7 +22,7 @@ use Rattle.async_work.proofs.CountingWorks.{any-counted}
 use Rattle.async_work.proofs.Ids.{found-works, numbered-work}
 use Rattle.async_work.proofs.Queueing.{has-waiting}
 use Rattle.async_work.proofs.PoolExecutions.{has-work}
-use Rattle.async_work.proofs.Linking.{if-some, same-some, stage-of}
+use Rattle.async_work.proofs.Linking.{if-some, stage-of}
 
 -- a call on the work of an id, by how far it has come
 abbrev pub refused : (WorkState → Bool) → Option WorkState → Option Status
@@ -98,7 +99,7 @@ module _ (places : List (HeldValue Placed)) (issued : List ℕ) (line : List Num
       only m q there is =
           let number = if-some (λ k. IsNumberOf line m k) q.number n is (kept.linked.named m q there) in
           let named : queue_id_at line n ≡ Some m = number.1 (ap is_done_in_queue (stage-of line n e at) ∙ unfinished) in
-          same-some m e.id (sym named ∙ ap (option_map (λ (x : NumberedWork). x.id)) at)
+          same_Some m e.id (sym named ∙ ap (option_map (λ (x : NumberedWork). x.id)) at)
 
 -- by the state that is told of the place of an id
 module _ (places : List (HeldValue Placed)) (line : List NumberedWork) (id : ℕ) (s : WorkState) (is : Some s ≡ option_map (place_state line)
@@ -109,7 +110,7 @@ module _ (places : List (HeldValue Placed)) (line : List NumberedWork) (id : ℕ
       by : (q : Option Placed) → place_at places id ≡ q → Some s ≡ option_map (place_state line) q
           → (p : Placed) × (place_at places id ≡ Some p) × (place_state line p ≡ s)
       by None at told = let no : ⊥ = cc in absurd no
-      by (Some p) at told = (p, at, sym (same-some s (place_state line p) told))
+      by (Some p) at told = (p, at, sym (same_Some s (place_state line p) told))
 
 pub created-none : (line : List NumberedWork) (p : Placed) → place_state line p ≡ Created → p.number ≡ None
 created-none line p is = by p.number is

@@ -6,13 +6,15 @@ use Rattle.std.proofs.lemmas.Bool.{eq-eqb, ltb-true, ltb-false}
 use Rattle.std.proofs.lemmas.List.{map-append, length-set, append-nil, take-append-le, take_all, drop_all, get_or_default}
 use Rattle.std.proofs.lemmas.List.Edits.{map_over_more}
 use Rattle.std.proofs.lemmas.Option.{get_or_from_slice_get, slice_get_past, slice_get_read}
-use Rattle.std.proofs.lemmas.List.Elements.{All-head, All-tail, All-map, filter-append}
+use Rattle.std.proofs.lemmas.List.Elements.{All-head, All-tail, All-map}
 use Rattle.napi_types.specs.declared.ids.Ticket.{Ticket}
 use Rattle.napi_types.specs.plain.Lists.{has_number}
 use Rattle.napi_types.specs.plain.Room.{one_if}
-use Rattle.napi_types.specs.parts.AsyncHooks.{AsyncHook, HookState, Waiting, Abandoned, Removed, async_hook, is_waiting, in_state, count_waiting, with_async_hook, with_removed, with_begun, with_abandoned}
+use Rattle.napi_types.specs.parts.AsyncHooks.{AsyncHook, Waiting, Abandoned, Removed, async_hook, is_waiting, in_state, count_waiting, with_removed, with_begun, with_abandoned}
 use Rattle.napi_types.specs.parts.Book.{TicketsRise}
 use Rattle.napi_types.proofs.plain.Found.{apart-below, apart-above, same-self}
+use Rattle.napi_types.proofs.plain.Tallies.{at-most-one}
+use Rattle.napi_types.proofs.environment.AsyncHooked.{none-waiting}
 use Rattle.napi_types.proofs.environment.HookedBooks.{rise-push}
 use Rattle.cleanup_hooks.specs.declared.asynchronous.AsyncState.{AsyncState}
 use Rattle.cleanup_hooks.specs.declared.asynchronous.AsyncState.TheVariants as kept
@@ -164,14 +166,6 @@ tickets-abandoned (h ∷ hs) = by (is_waiting h.state) (tickets-abandoned hs)
     by true later = ap (λ ts. h.ticket ∷ ts) later
     by false later = ap (λ ts. h.ticket ∷ ts) later
 
-none-waiting : (hooks : List AsyncHook) → count_waiting (with_abandoned hooks) ≡ 0
-none-waiting [] = refl
-none-waiting (h ∷ hs) = by (is_waiting h.state) refl (none-waiting hs)
-  where
-    by : (b : Bool) → is_waiting h.state ≡ b → count_waiting (with_abandoned hs) ≡ 0 → count_waiting (cond b (in_state Abandoned h) h ∷ with_abandoned hs) ≡ 0
-    by true is later = later
-    by false is later = rw is later
-
 pub table-abandoned : (rows new : List AsyncRow) (waiting : ℕ) → new ≡ map abandoned_row rows → IsKeptTable rows waiting → IsKeptTable new 0
 table-abandoned rows new waiting is k =
     let whole : async_hooks_of new ≡ with_abandoned (async_hooks_of rows) = ap (λ rs. async_hooks_of rs) is ∙ abandoned-all 1 rows in
@@ -234,10 +228,6 @@ pub written-row : (s : AsyncState) (rows : List AsyncRow) (p : ℕ) (x y : Async
     → ◌≡◌ {A = AsyncRow} (record { ticket = y.ticket; state = s }) (record { ticket = x.ticket; state = s })
 written-row s rows p x y here is = ap (λ (r : AsyncRow). record { ticket = r.ticket; state = s }) (same-row rows p x y here is)
 
-one_if-most : (b : Bool) → one_if b ≤ 1
-one_if-most true = omega arith
-one_if-most false = omega arith
-
 -- a row is written as that of a hook that was removed
 pub table-removed : (rows : List AsyncRow) (waiting p n : ℕ) (x y : AsyncRow) → slice_get rows p ≡ Some x → n ≡ one_if (is_waiting (hook_state_seen x.state)) → y ≡ record { ticket = x.ticket; state = kept.Removed }
     → IsKeptTable rows waiting → IsKeptTable (set rows p y) (waiting - n)
@@ -250,7 +240,7 @@ table-removed rows waiting p n x y here counts is k =
 pub table-begun : (rows : List AsyncRow) (waiting p n : ℕ) (x y : AsyncRow) → slice_get rows p ≡ Some x → n ≡ one_if (is_waiting (hook_state_seen x.state)) → y ≡ record { ticket = x.ticket; state = kept.Waiting }
     → IsKeptTable rows waiting → IsKeptTable (set rows p y) (waiting + (1 - n))
 table-begun rows waiting p n x y here counts is k =
-    let most = one_if-most (is_waiting (hook_state_seen x.state)) in
+    let most = at-most-one (is_waiting (hook_state_seen x.state)) in
     let one : one_if (is_waiting (hook_state_seen y.state)) ≡ 1 = ap (λ (q : AsyncRow). one_if (is_waiting (hook_state_seen q.state))) is in
     table-set rows waiting (waiting + (1 - n)) p x y here (ap (λ (q : AsyncRow). q.ticket.0) is) (omega (arith, most, one, counts)) k
 

@@ -4,16 +4,10 @@ use Rattle.std.proofs.lemmas.Bool.{or_parts}
 use Rattle.std.proofs.lemmas.Bool.Decides.{nat_tests}
 use Rattle.std.proofs.lemmas.List.Folds.{list_any-append}
 use Rattle.napi_types.specs.plain.Lists.{has_number}
-use Rattle.napi_types.proofs.plain.Found.{same-self, same-tells, turned}
+use Rattle.napi_types.proofs.plain.Found.{same-self, same-tells, turned, equal-tests}
 use Rattle.deferred.specs.PromiseRows.{NoneTwice}
 
 -- COMPARED
-pub same-from : (m n : ℕ) → nat_eq m n ≡ true → m ≡ n
-same-from m n is = grind (arith, nat_tests)
-
-pub equal-tests : (m n : ℕ) → (m == n) ≡ nat_eq n m
-equal-tests m n = grind (arith, nat_tests)
-
 pub apart-from : (m n : ℕ) → nat_eq m n ≡ false → (n == m) ≡ false
 apart-from m n apart = equal-tests n m ∙ apart
 

@@ -2,9 +2,10 @@
 use Rattle.std.proofs.Common.{◌≡◌, ◌∙◌, ℕ, zero, suc, ◌+◌, ◌<◌, ◌≤◌, ◌==◌, ◌||◌, Bool, true, false, cond, List, [], ◌∷◌, ◌++◌, length, get_or, take, slice_get, Some, add-one, refl, ap, sym, arith}
 use Rattle.std.proofs.Math.Seq.{take-suc}
 use Rattle.napi_types.specs.plain.Lists.{has_number}
-use Rattle.napi_types.specs.parts.Book.{Book, Registration, TicketState, Registered, Due, Begun, Ended, Withdrawn, is_registered, is_at, made_due, moved, moved_at, with_hint, changed_from, changed_at, registration_at, new_ticket}
+use Rattle.napi_types.specs.parts.Book.{Book, Registration, is_registered, is_at, made_due, moved, moved_at, with_hint, changed_from, changed_at, registration_at, new_ticket}
 use Rattle.napi_types.specs.parts.Promises.{made_settled, reactions_settled}
 use Rattle.napi_types.proofs.plain.Found.{same-tells, turned}
+use Rattle.napi_types.proofs.parts.Books.{due-registers-none}
 use Rattle.napi_types.proofs.parts.Moved.{IsUnder, PassesTest, under-ticket, registration-within, at-state}
 use Rattle.napi_types.proofs.parts.Moves.{changed_where-both}
 use Rattle.deferred.proofs.Numbers.{has-behind}
@@ -61,18 +62,11 @@ settled-unregistered state n book is =
     (same-there (made_settled state) (λ r. r) n book
     (λ r there. ap (λ b. cond b (moved made_due (with_hint state r)) r) (sym (at-state is_registered book n r there) ∙ is)) ∙ from-itself n 1 book)
 
-unregistered : (s : TicketState) → is_registered (made_due s) ≡ false
-unregistered Registered = refl
-unregistered Due = refl
-unregistered Begun = refl
-unregistered Ended = refl
-unregistered Withdrawn = refl
-
 twice : (state : ℕ) (r : Registration) → made_settled state (made_settled state r) ≡ made_settled state r
 twice state r = by (is_registered r.state) refl
   where
     by : (b : Bool) → is_registered r.state ≡ b → made_settled state (cond b (moved made_due (with_hint state r)) r) ≡ cond b (moved made_due (with_hint state r)) r
-    by true is = ap (λ b. cond b (moved made_due (with_hint state (moved made_due (with_hint state r)))) (moved made_due (with_hint state r))) (unregistered r.state)
+    by true is = ap (λ b. cond b (moved made_due (with_hint state (moved made_due (with_hint state r)))) (moved made_due (with_hint state r))) (due-registers-none r.state)
     by false is = ap (λ b. cond b (moved made_due (with_hint state r)) r) is
 
 from-from : (state k : ℕ) (p q : ℕ → Bool) (rs : List Registration)

@@ -1,12 +1,13 @@
 -- The three tables stay tied as one promise is changed.
 use Rattle.std.proofs.Common.{◌≡◌, ◌∙◌, ℕ, ◌+◌, ◌≤◌, ◌==◌, nat_eq, ◌||◌, Bool, true, false, not, cond, [], ◌∷◌, ◌++◌, filter, Option, Some, None, refl, ap, sym, subst, arith, true≢false}
 use Rattle.std.specs.Option.{option_map_or}
+use Rattle.std.proofs.lemmas.Bool.{false_from_ne_true}
 use Rattle.std.proofs.lemmas.Bool.Decides.{nat_tests}
 use Rattle.std.proofs.lemmas.Option.{same_Some}
 use Rattle.napi_types.specs.plain.Lists.{has_number}
-use Rattle.napi_types.proofs.plain.Found.{same-self, same-tells}
+use Rattle.napi_types.proofs.plain.Found.{same-self, same-tells, same-from, equal-tests}
 use Rattle.deferred.specs.PromiseRows.{RowOf, deferred_in, is_deferred_of, reactions_in_row, NoneTwice, AreTiedBy}
-use Rattle.deferred.proofs.Numbers.{same-from, equal-tests, apart-from, has-without, once-without, has-behind, once-behind}
+use Rattle.deferred.proofs.Numbers.{apart-from, has-without, once-without, has-behind, once-behind}
 
 -- the row names this deferred
 pub is-deferred : (n : ℕ) (row : Option RowOf) → deferred_in row ≡ Some n → is_deferred_of n row ≡ true
@@ -23,13 +24,6 @@ deferred-is n row is = by (deferred_in row) is
 one-promise : (o : Option ℕ) (u v : ℕ) → o ≡ Some u → o ≡ Some v → u ≡ v
 one-promise o u v this that = same_Some u v (sym this ∙ that)
 
-tested : (b : Bool) → (b ≡ true → ⊥) → b ≡ false
-tested b never = by b refl
-  where
-    by : (c : Bool) → b ≡ c → b ≡ false
-    by true is = absurd (never is)
-    by false is = is
-
 module _ (R S : ℕ → Option RowOf) (D E T U : ℕ → Option ℕ) (made : ℕ) (tied : AreTiedBy R D T made) (v : ℕ) where
   -- a deferred of this promise, and of another one
   pub deferred-tells : (n u : ℕ) → D n ≡ Some u → is_deferred_of n (R v) ≡ (u == v)
@@ -37,7 +31,7 @@ module _ (R S : ℕ → Option RowOf) (D E T U : ℕ → Option ℕ) (made : ℕ
     where
       by : (b : Bool) → (u == v) ≡ b → is_deferred_of n (R v) ≡ b
       by true same = is-deferred n (R v) (ap (λ w. deferred_in (R w)) (sym (same-tells u v same)) ∙ tied.promised n u there)
-      by false apart = tested _ (λ is. let one : u ≡ v = one-promise (D n) u v there (tied.deferring n v (deferred-is n (R v) is)) in true≢false (sym (same-self v) ∙ ap (λ k. k == v) (sym one) ∙ apart))
+      by false apart = false_from_ne_true _ (λ is. let one : u ≡ v = one-promise (D n) u v there (tied.deferring n v (deferred-is n (R v) is)) in true≢false (sym (same-self v) ∙ ap (λ k. k == v) (sym one) ∙ apart))
 
   -- THE PROMISE IS FORGOTTEN
   pub record Forgets : Type 0 where
@@ -84,7 +78,7 @@ module _ (R S : ℕ → Option RowOf) (D E T U : ℕ → Option ℕ) (made : ℕ
       reacting n u false apart is =
           let there : T n ≡ Some u = tied.reacting n u is in
           let none : has_number n (reactions_in_row (R v)) ≡ false =
-          tested _ (λ has. let one : u ≡ v = one-promise (T n) u v there (tied.reacting n v has) in
+          false_from_ne_true _ (λ has. let one : u ≡ v = one-promise (T n) u v there (tied.reacting n v has) in
           true≢false (sym (same-self v) ∙ ap (λ k. k == v) (sym one) ∙ apart-from v u apart)) in
           ap (λ b. cond b None (T n)) none ∙ there
 
@@ -268,7 +262,7 @@ module _ (R S : ℕ → Option RowOf) (D E T U : ℕ → Option ℕ) (made : ℕ
         reacting m u false apart false at is = tied.reacting m u is
 
         fresh : has_number n r.reactions ≡ false
-        fresh = tested _ (λ is. let some : T n ≡ Some v = tied.reacting n v (sym (was n) ∙ is) in let no : ⊥ = cc in no)
+        fresh = false_from_ne_true _ (λ is. let some : T n ≡ Some v = tied.reacting n v (sym (was n) ∙ is) in let no : ⊥ = cc in no)
 
         once : (u : ℕ) (c : Bool) → NoneTwice (reactions_in_row (cond c (Some more) (R u)))
         once u true = once-behind n r.reactions (subst (λ o. NoneTwice (reactions_in_row o)) there (tied.once v)) fresh

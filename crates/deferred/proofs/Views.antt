@@ -1,5 +1,5 @@
 -- What the three tables stand for, and what a change of them makes of it.
-use Rattle.std.proofs.Common.{◌≡◌, ◌∙◌, ℕ, suc, ◌+◌, ◌==◌, nat_eq, ◌||◌, Bool, true, false, not, cond, List, [], ◌∷◌, ◌++◌, map, filter, length, Option, Some, None, option_map, is_some, IsSome, OnOk, OnErr, Result, Ok, Err, refl, ap, sym, subst, arith, true≢false}
+use Rattle.std.proofs.Common.{◌≡◌, ◌∙◌, ℕ, suc, ◌+◌, ◌==◌, nat_eq, ◌||◌, Bool, true, false, not, cond, List, [], ◌∷◌, ◌++◌, map, filter, length, Option, Some, None, option_map, is_some, IsSome, OnOk, Result, Ok, Err, refl, ap, sym, subst, arith, true≢false}
 use Rattle.std.specs.List.{list_any, IsDistinct}
 use Rattle.std.specs.Cmp.{IsEquivalence}
 use Rattle.std.specs.Map.{lookup, keys_of}
@@ -7,15 +7,17 @@ use Rattle.std.specs.Option.{option_and_then, unwrap_or}
 use Rattle.std.proofs.lemmas.Bool.Decides.{nat_tests}
 use Rattle.std.proofs.lemmas.List.Folds.{list_any-append}
 use Rattle.std.proofs.lemmas.Map.Entries.{option_filter, lookup-filter-values}
-use Rattle.napi_types.specs.plain.Lists.{found, has, has_number, HaveSameNumbers, is_empty, with_number, as_map, up_to}
+use Rattle.napi_types.specs.plain.Lists.{found, has, has_number, HaveSameNumbers, is_empty, with_number, up_to}
 use Rattle.napi_types.specs.parts.Promises.{Promise, Deferred, Promises, no_promises, promise_at, promise_state, reactions_of, is_reaction_of, deferred_promise, promise_roots, promise_changed, with_promise, with_settled, with_reaction, without_reaction, without_promise}
-use Rattle.napi_types.proofs.plain.Found.{IsRising, same-self, same-tells, has-found, found-above, found-with_record, found-filter, found-kept, found-map, found-as_map, found-same, rising-with_record, rising-filter, rising-changed, rising-as_map, rising-map}
+use Rattle.napi_types.proofs.plain.Found.{IsRising, same-self, same-tells, has-found, found-above, found-with_record, found-filter, found-kept, found-map, found-same, rising-with_record, rising-filter, rising-changed, rising-as_map, rising-map, same-from, equal-tests}
+use Rattle.napi_types.proofs.plain.FoundInMaps.{found-in-map}
 use Rattle.napi_types.proofs.plain.Issued.{length-up_to, up_to-more, fresh_number}
 use Rattle.napi_types.proofs.plain.Lists.{any-map}
+use Rattle.napi_types.proofs.plain.Options.{none-of}
 use Rattle.deferred.specs.declared.row.PromiseRow.{PromiseRow}
 use Rattle.deferred.specs.KeptPromises.{KeptPromises, AreMaps}
 use Rattle.deferred.specs.PromiseRows.{RowOf, seen_row, row_at, settled_row, added_row, taken_row as taken_of, deferred_in, is_deferred_of, reactions_in_row, promise_in, deferred_as, promises_of, AreTied, is_root_row, root_values}
-use Rattle.deferred.proofs.Numbers.{same-from, equal-tests, without-absent}
+use Rattle.deferred.proofs.Numbers.{without-absent}
 use Rattle.deferred.proofs.Tied.{Forgets, Settles, deferred-tells, tied-forgotten, tied-made, tied-settled, tied-added, tied-taken}
 
 -- the promises of what a caller sees
@@ -26,23 +28,6 @@ self-same : (n : ℕ) → nat_eq n n ≡ true
 self-same n = grind (arith, nat_tests)
 
 -- WHAT IS FOUND
-module _ {X R : Type 0} (number : R → ℕ) (made : ℕ → X → R) (by : (n : ℕ) (x : X) → number (made n x) ≡ n) where
-  found-made : (n : ℕ) (es : List (ℕ × X)) → found number n (map (λ e. made e.0 e.1) es) ≡ option_map (made n) (lookup (nat_eq n) es)
-  found-made n [] = refl
-  found-made n (e ∷ es) = case (nat_eq n e.0) refl (found-made n es)
-    where
-      here : (b : Bool) → nat_eq n e.0 ≡ b → (number (made e.0 e.1) == n) ≡ b
-      here b is = ap (λ k. k == n) (by e.0 e.1) ∙ equal-tests e.0 n ∙ is
-
-      case : (b : Bool) → nat_eq n e.0 ≡ b → found number n (map (λ d. made d.0 d.1) es) ≡ option_map (made n) (lookup (nat_eq n) es)
-          → cond (number (made e.0 e.1) == n) (Some (made e.0 e.1)) (found number n (map (λ d. made d.0 d.1) es)) ≡ option_map (made n) (cond b (Some e.1) (lookup (nat_eq n) es))
-      case true is rest =
-          ap (λ c. cond c (Some (made e.0 e.1)) (found number n (map (λ d. made d.0 d.1) es))) (here true is) ∙ ap (λ k. Some (made k e.1)) (sym (same-from n e.0 is))
-      case false is rest = ap (λ c. cond c (Some (made e.0 e.1)) (found number n (map (λ d. made d.0 d.1) es))) (here false is) ∙ rest
-
-  pub found-in-map : (n : ℕ) (es : List (ℕ × X)) → found number n (as_map number (map (λ e. made e.0 e.1) es)) ≡ option_map (made n) (lookup (nat_eq n) es)
-  found-in-map n es = found-as_map number n (map (λ e. made e.0 e.1) es) ∙ found-made n es
-
 mapped-twice : {A B C : Type 0} (f : A → B) (g : B → C) (o : Option A) → option_map (λ x. g (f x)) o ≡ option_map g (option_map f o)
 mapped-twice f g None = refl
 mapped-twice f g (Some x) = refl
@@ -499,14 +484,6 @@ empty-length (m ∷ ns) n is = ap (λ k. k == 0) is ∙ more (length ns)
     more k = grind (arith, nat_tests)
 
 -- THE CALLS
-none-of : {A : Type 0} (o : Option A) → is_some o ≡ false → o ≡ None
-none-of None is = refl
-none-of (Some x) is = let never : ⊥ = cc in absurd never
-
-pub on-err : {A E : Type 0} (r : Result A E) (P : Type 0) → P → OnErr r P
-on-err (Ok x) P holds = tt
-on-err (Err e) P holds = holds
-
 pub gone-here : (v : ℕ) (o : Option RowOf) → cond (nat_eq v v) None o ≡ None
 gone-here v o = ap (λ b. cond b None o) (self-same v)
 

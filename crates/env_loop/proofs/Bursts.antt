@@ -16,6 +16,7 @@ use Rattle.napi_types.specs.environment.Environment.{Environment}
 use Rattle.napi_types.specs.hub.Hub.{Hub}
 use Rattle.napi_types.specs.hub.HubSteps.{hub_step, hub_along}
 use Rattle.napi_types.specs.runs.Choice.{local_choice}
+use Rattle.napi_types.proofs.hub.GrowingHistories.{along-parts}
 use Rattle.shared_hub.specs.HubStates.{HubSeen}
 use Rattle.shared_hub.specs.declared.naming.Numbers.{Numbers}
 use Rattle.env_loop.specs.declared.run.FrameEnd.{FrameEnd}
@@ -39,10 +40,6 @@ use Rattle.env_loop.proofs.FrameTurns.{InFrame, head-stands, head-within, stands
 next-append : (h : Hub) (xs ys : List Entry) → AreHubNext h xs → AreHubNext (hub_along h xs) ys → AreHubNext h (xs ++ ys)
 next-append h [] ys first later = later
 next-append h (x ∷ xs) ys first later = (first.0, next-append (hub_step h x).after xs ys first.1 later)
-
-along-append : (h : Hub) (xs ys : List Entry) → hub_along h (xs ++ ys) ≡ hub_along (hub_along h xs) ys
-along-append h [] ys = refl
-along-append h (x ∷ xs) ys = along-append (hub_step h x).after xs ys
 
 pub no-entries : (who : Actor) (s : HubSeen) → AddsEntriesOf who 0 s s
 no-entries who s = record {
@@ -70,7 +67,7 @@ entries-then who j k m a b c is x y = record {
   as_many = length-append x.entries y.entries ∙ (ap (λ n. n + length y.entries) x.as_many ∙ (ap (λ n. j + n) y.as_many ∙ is));
   by = All-append (λ (e : Entry). e.actor ≡ who) x.entries y.entries x.by y.by;
   next = next-append a.hub x.entries y.entries x.next (subst (λ h. AreHubNext h y.entries) x.hub y.next);
-  hub = y.hub ∙ (ap (λ h. hub_along h y.entries) x.hub ∙ sym (along-append a.hub x.entries y.entries));
+  hub = y.hub ∙ (ap (λ h. hub_along h y.entries) x.hub ∙ sym (along-parts a.hub x.entries y.entries));
   history = y.history ∙ (ap (λ l. l ++ y.entries) x.history ∙ append_assoc a.history x.entries y.entries);
 }
 

@@ -30,6 +30,7 @@ use Rattle.napi_types.specs.runs.Machine.{Machine}
 use Rattle.napi_types.specs.runs.Plan.{caller_after_reply, after_event}
 use Rattle.napi_types.specs.runs.Setting.{Setting, opening_of}
 use Rattle.napi_types.specs.runs.Step.{locally, env_step, may_cut}
+use Rattle.napi_types.proofs.plain.Options.{none-of}
 use Rattle.napi_types.proofs.environment.AnswersKeep.{course-parts}
 use Rattle.napi_types.proofs.environment.FrameChanges.{KeepsButFrame, ended-keeps}
 use Rattle.napi_types.proofs.environment.FrameEnds.{Ends, ended-ends}
@@ -47,7 +48,7 @@ use Rattle.env_loop.specs.Recording.{AddonStates, machine_of, HasSeen, IsOf, IsR
 use Rattle.env_loop.specs.RecordedRuns.{Run, IsSoundEnvironment, HoldsDuty, IsRunning, cut_at}
 use Rattle.env_loop.specs.Turns.{ReplyIsNoted, OnlyInnermostChanges, IsMadeTurn, BecamePending, TurnCameTo, turn_after, EndedNow, EndedOrPending}
 use Rattle.env_loop.proofs.LocalGoing.{if_some-none, stages-same}
-use Rattle.env_loop.proofs.MadeTurns.{none-there, running-idle, states-same, turn-made, turn-owes, made-turn}
+use Rattle.env_loop.proofs.MadeTurns.{running-idle, states-same, turn-made, turn-owes, made-turn}
 use Rattle.env_loop.proofs.Recordings.{local-grown}
 use Rattle.env_loop.proofs.TurnSteps.{leave-next, cut-next, by-env, ended-untold}
 use Rattle.env_loop.proofs.FrameTurns.{head-stands, head-below, tail-below, HasTopFrame, stands-so, InFrame, in-some, in-asks, sound-ended}
@@ -281,7 +282,7 @@ pub plain-running : (core new : Core) (v : Option HandleId) (cut : Option Why) (
 plain-running core new v cut begun ending sound some idle plain made held unended =
     let S : Core → Type 0 = λ c. IsSoundEnvironment c.env in
     running-idle new begun ending (subst S (sym made) (sound-ended core.env sound some v cut))
-    (plain-left core new v cut begun (none-there (duty_of core.env.frames) plain) made held)
+    (plain-left core new v cut begun (none-of (duty_of core.env.frames) plain) made held)
     (ap (λ (c : Core). c.awaited) made ∙ idle) unended
 
 -- the frame of a duty takes it away, which stood alone

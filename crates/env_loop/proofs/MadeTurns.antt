@@ -1,5 +1,5 @@
 -- A turn that leaves one entry in the journal, and one after which something is pending at the hub.
-use Rattle.std.proofs.Common.{◌≡◌, ◌≢◌, ◌&&◌, ◌||◌, Bool, true, false, cond, List, [], ◌∷◌, drop, refl, ap, subst, sym, ◌∙◌, Option, Some, None, is_some}
+use Rattle.std.proofs.Common.{◌≡◌, ◌≢◌, ◌&&◌, ◌||◌, Bool, true, false, cond, List, [], ◌∷◌, drop, refl, ap, subst, sym, ◌∙◌, Option, None, is_some}
 use Rattle.std.specs.Option.{option_to_list}
 use Rattle.napi_types.specs.declared.duties.DueInfo.{DueInfo}
 use Rattle.napi_types.specs.declared.entry.Entry.{Entry}
@@ -8,6 +8,7 @@ use Rattle.napi_types.specs.parts.Frames.{Frame, duty_of, is_hub_duty}
 use Rattle.napi_types.specs.scripts.Plans.{Plan}
 use Rattle.napi_types.specs.environment.Changes.{Change}
 use Rattle.napi_types.specs.environment.Environment.{Environment}
+use Rattle.napi_types.proofs.plain.Options.{none-of}
 use Rattle.env_core.specs.Core.{Core, after_change}
 use Rattle.env_loop.specs.declared.run.FrameEnd.{FrameEnd}
 use Rattle.env_loop.specs.declared.turn.LocalTurn.TheVariants as turn
@@ -17,18 +18,13 @@ use Rattle.env_loop.specs.RecordedRuns.{Run, IsSoundEnvironment, HoldsDuty, IsRu
 use Rattle.env_loop.specs.Turns.{turn_of, turn_after, next_ticket_info, OnlyInnermostChanges, IsMadeTurn}
 use Rattle.env_loop.proofs.LocalGoing.{if_some-none, KeepsStages, fits-local}
 
--- what is not there is none
-pub none-there : {A : Type 0} (o : Option A) → is_some o ≡ false → o ≡ None
-none-there None none = refl
-none-there (Some x) none = cc
-
 -- a run that has nothing pending at the hub awaits no answer
 first-none : (a b : Bool) → (a || b) ≡ false → a ≡ false
 first-none true b none = cc
 first-none false b none = refl
 
 pub unowed-idle : (run : Run) → pending_at_hub run ≡ false → run.core.awaited ≡ None
-unowed-idle run unowed = none-there run.core.awaited (first-none (is_some run.core.awaited) _ unowed)
+unowed-idle run unowed = none-of run.core.awaited (first-none (is_some run.core.awaited) _ unowed)
 
 -- WHAT IS KEPT
 -- a run keeps what it has to, where nothing is pending

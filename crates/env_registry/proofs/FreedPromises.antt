@@ -1,8 +1,7 @@
 -- Values are freed, and with each what it was as a promise.
-use Rattle.std.proofs.Common.{◌≡◌, ◌∙◌, ℕ, ◌+◌, ◌<◌, ◌==◌, ◌||◌, Bool, true, false, not, cond, List, [], ◌∷◌, ◌++◌, length, get_or, take, map, filter, refl, ap, sym, add-one}
+use Rattle.std.proofs.Common.{◌≡◌, ◌∙◌, ℕ, ◌+◌, ◌==◌, ◌||◌, Bool, true, false, not, cond, List, [], ◌∷◌, ◌++◌, map, filter, refl, ap, sym}
 use Rattle.std.proofs.lemmas.List.{map-append}
 use Rattle.std.proofs.lemmas.List.Folds.{list_any-append}
-use Rattle.std.proofs.Math.Seq.{take-suc}
 use Rattle.napi_types.specs.declared.ids.ValueId.{ValueId}
 use Rattle.napi_types.specs.plain.Lists.{has_number}
 use Rattle.napi_types.specs.parts.Promises.{Promise, Deferred, Promises, without_promise, promises_left}
@@ -55,7 +54,3 @@ pub left-more : (vs : List ValueId) (x : ValueId) (p now new : Promises) → now
 left-more vs x p now new was is =
     is ∙ ap (without_promise x.0) was
     ∙ same-left p _ _ _ _ (filter-more (λ (r : Promise). r.value) vs x p.promises) (filter-more (λ (d : Deferred). d.promise) vs x p.deferreds)
-
--- the next one
-pub take-next : (values : List ValueId) (i : ℕ) (d : ValueId) → i < length values → take (i + 1) values ≡ take i values ++ get_or values i d ∷ []
-take-next values i d within = rw add-one (take-suc values i d within)

@@ -1,5 +1,5 @@
 -- What may come where no frame stands, and where one does.
-use Rattle.std.proofs.Common.{◌≡◌, ◌≤◌, ◌<◌, ◌==◌, ℕ, zero, suc, cond, Bool, true, false, List, [], ◌∷◌, filter, length, IsTrue, refl, ap, sym, ◌∙◌, subst, Option, Some, None, ◌⊎◌, inl, inr, arith}
+use Rattle.std.proofs.Common.{◌≡◌, ◌≤◌, ◌<◌, ◌==◌, ℕ, zero, suc, Bool, true, false, List, [], ◌∷◌, IsTrue, refl, ap, sym, ◌∙◌, subst, Option, Some, None, ◌⊎◌, inl, inr, arith}
 use Rattle.std.proofs.lemmas.Bool.{eqb-true, ltb-false}
 use Rattle.std.proofs.lemmas.Option.{same_Some}
 use Rattle.std.specs.Option.{option_or, unwrap_or}
@@ -19,7 +19,6 @@ use Rattle.napi_types.specs.declared.entry.Why.{Why}
 use Rattle.napi_types.specs.declared.ids.HandleId.{HandleId}
 use Rattle.napi_types.specs.plain.Entries.{cut_of, is_begin}
 use Rattle.napi_types.specs.plain.Guards.{is_shared}
-use Rattle.napi_types.specs.parts.AsyncHooks.{AsyncHook, Abandoned, is_waiting, in_state, count_waiting, with_abandoned}
 use Rattle.napi_types.specs.parts.Book.{Registration, registration_at}
 use Rattle.napi_types.specs.parts.Frames.{Frame, duty_of, is_hub_duty}
 use Rattle.napi_types.specs.environment.Changes.{issued_number, may_ask}
@@ -35,6 +34,7 @@ use Rattle.napi_types.specs.runs.Machine.{Machine}
 use Rattle.napi_types.specs.runs.Run.{IsNext, IsRunBy, after}
 use Rattle.napi_types.specs.runs.Setting.{Setting, opening_of, final_of}
 use Rattle.napi_types.specs.runs.Step.{Step, locally, ticket_step, event_step, chosen, may_cut, call_step_on, end_step_on, frame_step, step}
+use Rattle.napi_types.proofs.environment.AsyncHooked.{none-waiting}
 use Rattle.napi_types.proofs.environment.Cases.{asked-by}
 use Rattle.napi_types.proofs.runs.Forms.{Form, form-of, shared-what, ended-what, event_what, event-what, other-what, by-env, frame-next, chosen-next}
 use Rattle.napi_types.proofs.runs.Forms as form
@@ -338,17 +338,6 @@ record HasNoneLeft (m : Machine) : Type 0 where
 abbrev LeavesNone : Machine → Type 0
 LeavesNone m = m.hub.stage ≡ HooksAbandoned → HasNoneLeft m
 
-none-waits : (others : List AsyncHook) → count_waiting (with_abandoned others) ≡ 0
-none-waits [] = refl
-none-waits (h ∷ others) = by (is_waiting h.state) refl ∙ none-waits others
-  where
-    rest : List AsyncHook
-    rest = filter (λ k. is_waiting k.state) (with_abandoned others)
-
-    by : (b : Bool) → is_waiting h.state ≡ b → count_waiting (cond b (in_state Abandoned h) h ∷ with_abandoned others) ≡ count_waiting (with_abandoned others)
-    by true is = refl
-    by false is = ap (λ b. length (cond b (h ∷ rest) rest)) is
-
 -- then the drain is chosen
 drain-chosen : (m : Machine) → InPhase m → m.hub.stage ≡ HooksAbandoned → HasNoneLeft m → choice m ≡ Some Drains
 drain-chosen m far stage left = rw (hooks-phase m.env.phase m.hub.stage far (ap is_of_hooks stage), left.spent, stage) refl
@@ -405,7 +394,7 @@ event-leaves m v far left alone next there = by (event-before m v there)
         let from : AbandonsFrom m = chosen-abandon m (next ∙ ap Some same) in
         let here : m.env.phase ≡ phase.Hooks = hooks-phase m.env.phase m.hub.stage far (ap is_of_hooks from.stage) in
         let done : HasNoneLeft (event_step m Abandons).after = record {
-          unwaited = none-waits m.env.async_hooks;
+          unwaited = none-waiting m.env.async_hooks;
           spent = none-left m.env m.env.phase here (no-choice m.env m.env.phase from.none);
           alone = alone;
         } in

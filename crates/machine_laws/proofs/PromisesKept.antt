@@ -12,6 +12,7 @@ use Rattle.napi_types.specs.environment.Environment.{Environment}
 use Rattle.napi_types.specs.environment.Roots.{roots, reach}
 use Rattle.napi_types.proofs.parts.Reaching.{reach-roots}
 use Rattle.napi_types.proofs.plain.Found.{IsRising, apart-above, found-All, found-filter, found-number, same-self, same-tells}
+use Rattle.napi_types.proofs.plain.Lists.{unempty}
 use Rattle.napi_types.proofs.plain.Maps.{filter_all, has-left, has-right}
 use Rattle.machine_laws.specs.Consistency.{IsConsistent, IsLiveAmong, reactions_in}
 use Rattle.machine_laws.specs.PromiseLaws.{PendingPromisesAreRoots, CollectionsKeepDeferreds, SettledPromisesAreNoRoots}
@@ -66,10 +67,6 @@ reactions_among rs v = unwrap_or (option_map (λ (r : Promise). r.reactions) (fo
 abbrev has_reaction : Promise → Bool
 has_reaction r = not (is_empty r.reactions)
 
-some-there : (n : ℕ) (ns : List ℕ) → has_number n ns ≡ true → not (is_empty ns) ≡ true
-some-there n [] here = cc
-some-there n (m ∷ ns) here = refl
-
 among-reacted : (v ticket : ℕ) (rs : List Promise) → has_number ticket (reactions_among rs v) ≡ true
     → has_number v (map promised_value (filter has_reaction rs)) ≡ true
 among-reacted v ticket [] here = cc
@@ -86,7 +83,7 @@ among-reacted v ticket (r ∷ rs) here = by (r.value == v) refl here (among-reac
         → has_number ticket (unwrap_or (option_map (λ (x : Promise). x.reactions) (cond b (Some r) (found promised_value v rs))) []) ≡ true
         → (has_number ticket (reactions_among rs v) ≡ true → has_number v rest ≡ true)
         → has_number v (map promised_value (filter has_reaction (r ∷ rs))) ≡ true
-    by true same is then = rw (some-there ticket r.reactions is) (or_left (r.value == v) (has_number v rest) same)
+    by true same is then = rw (unempty ticket r.reactions is) (or_left (r.value == v) (has_number v rest) same)
     by false other is then = later (has_reaction r) (then is)
 
 pub reacted-roots : ReactedPromisesAreRoots

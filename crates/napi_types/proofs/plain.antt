@@ -3,8 +3,10 @@ pub mod CallFacts
 pub mod Conditions
 pub mod Counted
 pub mod Found
+pub mod FoundInMaps
 pub mod Issued
 pub mod Lists
 pub mod Maps
+pub mod Options
 pub mod Tallies
 pub mod Weaves

@@ -16,8 +16,8 @@ pub fn collections_keep_what_is_reached()
     ensures { CollectionsKeepWhatIsReached }
 {}
 
-/// In every run to its end each finalizer, each hook and each reaction that is made and not withdrawn begins exactly once; one that is withdrawn was made, and never
-/// begins; and no other ticket begins. So it is whatever the addons do.
+/// In every run to its end each finalizer, each hook and each reaction that is made and not withdrawn begins exactly once; one that is withdrawn was made,
+/// and never begins; and no other ticket begins. So it is whatever the addons do.
 pub fn tickets_are_once()
     ensures { TicketsAreOnce }
 {}

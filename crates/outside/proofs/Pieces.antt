@@ -1,5 +1,5 @@
 -- What a sink took that was given a line piece by piece.
-use Rattle.std.proofs.Common.{◌≡◌, ℕ, List, ◌++◌, Option, Some, None, Result, Ok, Err, OnErr, refl, ap, sym, ◌∙◌, append_assoc}
+use Rattle.std.proofs.Common.{◌≡◌, ℕ, List, ◌++◌, Option, Some, None, refl, ap, sym, ◌∙◌, append_assoc}
 use Rattle.std.specs.Io.KnownBytes.{append_known}
 use Rattle.napi_types.specs.plain.Edge.{TookPrefix}
 
@@ -29,11 +29,6 @@ prefix-later had now has xs ys first t = record {
 -- both pieces whole
 pub pieces-known : (had now has : Option (List ℕ)) (xs ys : List ℕ) → now ≡ append_known had xs → has ≡ append_known now ys → has ≡ append_known had (xs ++ ys)
 pieces-known had now has xs ys first second = second ∙ (ap (λ o. append_known o ys) first ∙ both-known had xs ys)
-
--- what holds anyhow holds at an error
-pub at-err : {T E : Type 0} {P : Type 0} (r : Result T E) → P → OnErr r P
-at-err (Ok x) p = tt
-at-err (Err e) p = p
 
 -- a line of three pieces that was cut off in the first, the second or the third, or written whole
 pub cut-first : (had has : Option (List ℕ)) (xs ys zs : List ℕ) → TookPrefix had xs has → TookPrefix had (xs ++ ys ++ zs) has

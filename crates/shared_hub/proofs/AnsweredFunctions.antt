@@ -1,7 +1,6 @@
 -- What the hub answers to a call that queues an item of a function, by what the function answers.
-use Rattle.std.proofs.Common.{◌≡◌, ◌∙◌, ℕ, ◌+◌, Option, Some, None, Result, Ok, Err, option_map, refl, ap, sym, subst}
+use Rattle.std.proofs.Common.{◌≡◌, ◌∙◌, ℕ, ◌+◌, Option, Some, None, Ok, option_map, refl, ap, sym, subst}
 use Rattle.std.specs.Option.{option_and_then}
-use Rattle.std.specs.Result.{OnErr}
 use Rattle.napi_types.specs.declared.call.Call.TheVariants as call
 use Rattle.napi_types.specs.declared.call.Mode.{Mode}
 use Rattle.napi_types.specs.declared.entry.Actor.{Actor}
@@ -91,8 +90,3 @@ call-accepted old who g id payload m accepts h = λ n. by (function_numbered id.
     by : (o : Option FunctionState) → option_and_then (call_status who m) o ≡ Some status.Ok → IsAcceptance (call_answer (hub_with old h) who payload m o)
     by None is = cc
     by (Some f) is = on f (call_status who m f) is
-
--- a fact of each stop
-pub on-stop : {A E : Type 0} (r : Result A E) (P : Type 0) → P → OnErr r P
-on-stop (Ok x) P p = tt
-on-stop (Err e) P p = p

@@ -7,6 +7,7 @@ use mathlib.Core.Logic.{dite}
 use native.Mathlib.Decide.{ℕ_discrete}
 use lib.ListN.{get_elem?}
 use Rattle.atomic_table.specs.Table.{State, Joins, Final, Seen}
+use Rattle.napi_types.proofs.plain.Conditions.{true-or-false}
 use Rattle.atomic_table.proofs.Lists.{at_set, set_here, set_else}
 use Rattle.turn_lock.specs.declared.told.Row.{Row}
 use Rattle.turn_lock.specs.declared.view.Old.{Old}
@@ -16,7 +17,6 @@ use Rattle.turn_lock.specs.PassMoves.{joined, closed_view, old_of}
 use Rattle.turn_lock.specs.Closed.{WasClosed, AllClosed, FitsAll}
 use Rattle.turn_lock.proofs.Views.{at_below, one_view}
 use Rattle.turn_lock.proofs.First as first
-use Rattle.turn_lock.proofs.Passing.{true_false}
 
 WasClosed-not : (n : ℕ) (olds : List Old) → All (λ old. old.number ≢ n) olds → WasClosed n olds → ⊥
 WasClosed-not n [] none has = has
@@ -61,7 +61,7 @@ module _ {S : Type 0} (told : S → List Row) (passes : ℕ) where
       first_at = set_else (set s.views id (joined v w)) other id closed_view (λ e. apart_from (sym e)) ∙ set_here s.views id (joined v w) (at_below s.views id v at)
 
       free_not_holder : (h i : ℕ) (u x : View) → get_elem? s.views h ≡ maths.some u → u.holds ≡ true → get_elem? s.views i ≡ maths.some x → x.holds ≡ false → h ≢ i
-      free_not_holder h i u x hu holds ix not is = true_false u.holds holds (ap (λ y. y.holds) (one_view s.views h u x hu (subst (λ j. get_elem? s.views j ≡ maths.some x) (sym is) ix)) ∙ not)
+      free_not_holder h i u x hu holds ix not is = true-or-false u.holds holds (ap (λ y. y.holds) (one_view s.views h u x hu (subst (λ j. get_elem? s.views j ≡ maths.some x) (sym is) ix)) ∙ not)
 
       turn : IsFree told made rows ⊎ IsTaken told made rows
       unfolding made
@@ -80,7 +80,7 @@ module _ {S : Type 0} (told : S → List Row) (passes : ℕ) where
               t.1.3,
               t.1.4,
               t.1.5,
-              cases (λ j x. x.holds ≡ true → j ≡ h) (λ is. absurd (true_false v.holds is free)) (λ is. absurd (true_false false is refl)) (λ j x ne ne' here. t.1.6 j x here),
+              cases (λ j x. x.holds ≡ true → j ≡ h) (λ is. absurd (true-or-false v.holds is free)) (λ is. absurd (true-or-false false is refl)) (λ j x ne ne' here. t.1.6 j x here),
             ),
           ))
           k.turn
@@ -90,13 +90,13 @@ module _ {S : Type 0} (told : S → List Row) (passes : ℕ) where
           cases (λ i x. x.is_live ≡ true → y.is_live ≡ true → x.number ≡ y.number → i ≡ j)
           (cases (λ j y. v.is_live ≡ true → y.is_live ≡ true → v.number ≡ y.number → id ≡ j)
           (λ lx ly e. refl)
-          (λ lx ly e. absurd (true_false false ly refl))
+          (λ lx ly e. absurd (true-or-false false ly refl))
           (λ j y ne ne' here lx ly e. k.apart id j v y at here lx ly e)
           j y yj)
-          (λ lx ly e. absurd (true_false false lx refl))
+          (λ lx ly e. absurd (true-or-false false lx refl))
           (λ i x ne ne' here. cases (λ j y. x.is_live ≡ true → y.is_live ≡ true → x.number ≡ y.number → i ≡ j)
           (λ lx ly e. k.apart i id x v here at lx ly e)
-          (λ lx ly e. absurd (true_false false ly refl))
+          (λ lx ly e. absurd (true-or-false false ly refl))
           (λ j y nf nf' here' lx ly e. k.apart i j x y here here' lx ly e)
           j y yj)
           i x xi
@@ -119,7 +119,7 @@ module _ {S : Type 0} (told : S → List Row) (passes : ℕ) where
             first = joined v w;
             at = first_at;
             is_first = (zeroth, live);
-            fits = cases (λ j u. FitsView rows v.count u) (λ is. fits id v at live) (λ is. absurd (true_false false is refl)) (λ j u ne ne' here is. fits j u here is);
+            fits = cases (λ j u. FitsView rows v.count u) (λ is. fits id v at live) (λ is. absurd (true-or-false false is refl)) (λ j u ne ne' here is. fits j u here is);
             apart = apart;
             few = omega (arith, k.few, ap (λ x. x.count) same);
             below = subst (λ x. All (λ r. r.pass < x.count) rows) same k.below;
@@ -127,7 +127,7 @@ module _ {S : Type 0} (told : S → List Row) (passes : ℕ) where
             gone =
                 cases (λ j u. u.is_live ≡ true → All (λ old. old.number ≢ u.number) (old_of w ∷ v.olds))
                 (λ is. gone id v at live (λ e. apart_from (sym e)))
-                (λ is. absurd (true_false false is refl))
+                (λ is. absurd (true-or-false false is refl))
                 (λ j u ne ne' here is. gone j u here is ne');
           }
 
@@ -141,7 +141,7 @@ module _ {S : Type 0} (told : S → List Row) (passes : ℕ) where
         dite (ℕ_discrete u.number 0)
         (λ z.
         let is = k.apart h id u v t.1.2 at t.1.3 live (z ∙ sym zeroth) in
-        true_false u.holds t.1.4 (ap (λ y. y.holds) (one_view s.views h u v t.1.2 (subst (λ j. get_elem? s.views j ≡ maths.some v) (sym is) at)) ∙ free))
+        true-or-false u.holds t.1.4 (ap (λ y. y.holds) (one_view s.views h u v t.1.2 (subst (λ j. get_elem? s.views j ≡ maths.some v) (sym is) at)) ∙ free))
         (λ nz. WasClosed-not u.number v.olds (subst (λ x. All (λ old. old.number ≢ u.number) x.olds) same (k.gone h u t.1.2 t.1.3)) (all u.number (omega (arith, nz)) (omega (arith, b, few))))
 
     home : AllClosed passes v.olds → (value : S) × (get_elem? s.homes 0 ≡ maths.some (maths.some (Some value))) × (told value ≡ rows)

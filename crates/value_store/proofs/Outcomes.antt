@@ -10,7 +10,3 @@ ok-then (Err e) f h = tt
 pub err-then : {A E : Type 0} {P Q : Type 0} (r : Result A E) → (P → Q) → OnErr r P → OnErr r Q
 err-then (Ok a) f h = tt
 err-then (Err e) f h = f h
-
-pub err-with : {A E : Type 0} {P : Type 0} (r : Result A E) → P → OnErr r P
-err-with (Ok a) h = tt
-err-with (Err e) h = h

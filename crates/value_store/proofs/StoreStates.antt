@@ -3,6 +3,7 @@ use Rattle.std.proofs.Common.{◌≡◌, ◌≢◌, ◌⊎◌, inl, inr, ◌∙�
 use Rattle.std.specs.List.{All}
 use Rattle.std.proofs.lemmas.Bool.{eqb-true, eq-eqb, or_parts}
 use Rattle.std.proofs.lemmas.List.Elements.{All-weaker}
+use Rattle.std.proofs.lemmas.Option.{same_Some}
 use Rattle.napi_types.specs.declared.ids.ValueId.{ValueId}
 use Rattle.napi_types.specs.plain.Lists.{has_number}
 use Rattle.napi_types.specs.parts.Graph.{StoreState, IsLive, value_of, creation_number}
@@ -14,9 +15,6 @@ use Rattle.value_store.specs.Contents.{IsGood, NameStarting}
 use Rattle.value_store.proofs.Callers.{makes-live, changes-live}
 use Rattle.value_store.proofs.Lookup.{other-number}
 use Rattle.value_store.proofs.ReadingPlaces.{some-is}
-
-one-option : {A : Type 0} (v w : A) → Some v ≡ Some w → v ≡ w
-one-option v w is = cc
 
 -- A VALUE IS MADE
 module _ (s t : StoreState) (id : ℕ) (v : Value) (good : IsGood s) (step : MakesValue s t id v) where
@@ -37,7 +35,7 @@ module _ (s t : StoreState) (id : ℕ) (v : Value) (good : IsGood s) (step : Mak
   made-or n w is = by (n == id) refl
     where
       by : (b : Bool) → (n == id) ≡ b → ((n ≡ id) × (w ≡ v)) ⊎ (value_of s n ≡ Some w)
-      by true e = let same : n ≡ id = eqb-true n id e in inl (same, one-option w v (sym is ∙ ap (value_of t) same ∙ step.named))
+      by true e = let same : n ≡ id = eqb-true n id e in inl (same, same_Some w v (sym is ∙ ap (value_of t) same ∙ step.named))
       by false e = inr (sym (step.others n (other-number n id e)) ∙ is)
 
   pub made-good : EachStandsOnce t → v.number ≡ s.made + 1 → HasDistinctNames v.properties → All (IsLive s) (children v) → IsGood t
@@ -95,7 +93,7 @@ module _ (s t : StoreState) (id : ℕ) (change : Value → Value) (good : IsGood
     where
       mapped : (o : Option Value) → option_map change o ≡ Some w → value_of s id ≡ o → (v : Value) × (value_of s id ≡ Some v) × (w ≡ change v)
       mapped None here at = let no : ⊥ = cc in absurd no
-      mapped (Some v) here at = (v, at, one-option w (change v) (sym here))
+      mapped (Some v) here at = (v, at, same_Some w (change v) (sym here))
 
       by : (b : Bool) → (n == id) ≡ b → (v : Value) × (value_of s n ≡ Some v) × (w.number ≡ v.number) × (((n ≡ id) × (w ≡ change v)) ⊎ (w ≡ v))
       by true e =

@@ -7,13 +7,13 @@ use Rattle.std.proofs.lemmas.Bool.Decides.{nat_tests}
 use Rattle.napi_types.specs.declared.ids.Ticket.{Ticket}
 use Rattle.napi_types.specs.plain.Lists.{found, has, has_number}
 use Rattle.napi_types.specs.parts.Attachments.{Attachments, Wrapped, Tagged, Attached, no_attachments, wrap_of, tag_of, with_wrap, without_wrap, with_tag, with_attached, left_on}
-use Rattle.napi_types.proofs.plain.Found.{has-found, same-tells}
+use Rattle.napi_types.proofs.plain.Found.{has-found, same-tells, same-from, equal-tests}
 use Rattle.wrap_tag.specs.declared.row.ValueRow.{ValueRow}
 use Rattle.wrap_tag.specs.declared.row.Wrap.{Wrap}
 use Rattle.wrap_tag.specs.declared.row.Tag.{Tag}
 use Rattle.wrap_tag.specs.ValueRows.{tickets_of_chain, tickets_beside, blank_row, unwrapped_row, wrapped_as, tagged_as, wrap_in, tag_in, value_row, is_attached, attachments_of, AreRows, PutsRow, PutsTicket}
 use Rattle.wrap_tag.specs.Wraps.{WrapState}
-use Rattle.wrap_tag.proofs.ByValue.{IsByValue, same-from, equal-tests, found-mapped, mapped-with, mapped-same, mapped-without}
+use Rattle.wrap_tag.proofs.ByValue.{IsByValue, found-mapped, mapped-with, mapped-same, mapped-without}
 use Rattle.wrap_tag.proofs.ByTicket.{attached_ticket, absent-attached, attached-same, attached-with, attached-without}
 
 -- THE MAPS

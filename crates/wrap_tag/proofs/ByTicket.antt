@@ -6,10 +6,10 @@ use Rattle.std.specs.Option.{option_and_then, option_or, MatchOption}
 use Rattle.std.proofs.lemmas.Map.Keys.{IsDistinct-tail}
 use Rattle.napi_types.specs.plain.Lists.{found, has_number, with_record, as_map}
 use Rattle.napi_types.specs.parts.Attachments.{Attached}
-use Rattle.napi_types.proofs.plain.Found.{same-tells, same-self, found-append, found-with_record, found-kept, found-as_map, found-same, rising-with_record, rising-filter, rising-as_map}
+use Rattle.napi_types.proofs.plain.Found.{same-tells, same-self, found-append, found-with_record, found-kept, found-as_map, found-same, rising-with_record, rising-filter, rising-as_map, equal-tests}
 use Rattle.wrap_tag.specs.declared.row.ValueRow.{ValueRow}
 use Rattle.wrap_tag.specs.ValueRows.{tickets_of_chain, tickets_beside, attached_in, value_row, is_attached, AreRows}
-use Rattle.wrap_tag.proofs.ByValue.{value_row-later, equal-tests}
+use Rattle.wrap_tag.proofs.ByValue.{value_row-later}
 
 abbrev pub attached_ticket : Attached → ℕ
 attached_ticket t = t.ticket

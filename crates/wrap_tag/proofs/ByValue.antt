@@ -1,21 +1,13 @@
 -- What the rows of values stand for, by the numbers of values and of tickets.
-use Rattle.std.proofs.Common.{◌≡◌, ◌∙◌, ℕ, ◌==◌, nat_eq, Bool, true, false, not, cond, List, [], ◌∷◌, filter, Option, Some, None, refl, ap, sym, arith}
+use Rattle.std.proofs.Common.{◌≡◌, ◌∙◌, ℕ, ◌==◌, nat_eq, Bool, true, false, not, cond, List, [], ◌∷◌, filter, Option, Some, None, refl, ap, sym}
 use Rattle.std.specs.List.{IsDistinct, AllByRecursion, filter_map, cons_option}
 use Rattle.std.specs.Map.{keys_of}
 use Rattle.std.specs.Option.{option_and_then}
-use Rattle.std.proofs.lemmas.Bool.Decides.{nat_tests}
 use Rattle.std.proofs.lemmas.Map.Keys.{IsDistinct-head, IsDistinct-tail}
 use Rattle.napi_types.specs.plain.Lists.{found, with_record, as_map}
-use Rattle.napi_types.proofs.plain.Found.{same-self, found-with_record, found-filter, found-as_map, found-same, rising-with_record, rising-filter, rising-as_map}
+use Rattle.napi_types.proofs.plain.Found.{same-self, found-with_record, found-filter, found-as_map, found-same, rising-with_record, rising-filter, rising-as_map, same-from, equal-tests}
 use Rattle.wrap_tag.specs.declared.row.ValueRow.{ValueRow}
 use Rattle.wrap_tag.specs.ValueRows.{value_row, PutsRow}
-
--- NUMBERS
-pub same-from : (m n : ℕ) → nat_eq m n ≡ true → m ≡ n
-same-from m n is = grind (arith, nat_tests)
-
-pub equal-tests : (m n : ℕ) → (m == n) ≡ nat_eq n m
-equal-tests m n = grind (arith, nat_tests)
 
 -- a value that has no row in the rest
 value_row-absent : (v : ℕ) (es : List (ℕ × ValueRow)) → AllByRecursion (λ w. nat_eq v w ≡ false) (keys_of es) → value_row v es ≡ None

@@ -26,7 +26,7 @@ use Rattle.napi_types.specs.runs.Step.{step}
 use Rattle.napi_types.specs.all_runs.Counts.{is_duty, made, dropped, begun, started, begun_uncancelled}
 use Rattle.napi_types.specs.all_runs.DutyPlaces.{places_in_pool, places_in_hub}
 use Rattle.napi_types.specs.all_runs.Laws.{is_ticket}
-use Rattle.napi_types.proofs.plain.Tallies.{tally-cons}
+use Rattle.napi_types.proofs.plain.Tallies.{tally-cons, at-most-one}
 use Rattle.napi_types.proofs.hub.HubDutySteps.{ChangesFunction, calls, acquires, releases, refers, closes, finishes, delivers, owes, HubDutyStep, keeps, queues, cancels, starts, works, drains, creates, changes, completes}
 use Rattle.napi_types.proofs.hub.HubFunctions.{AreSoundFrom, function_changed_at}
 use Rattle.napi_types.proofs.hub.HubHolds.{HubSound}
@@ -44,10 +44,6 @@ given_in_hub h (duty.Ticket t) = 0
 given_in_hub h (duty.Work n) = given_in_pool n h.pool
 given_in_hub h (duty.Item f n) = accepted_at f n h
 given_in_hub h (duty.Function f) = finalizer_at f h
-
-at-most-one : (b : Bool) → one_if b ≤ 1
-at-most-one true = omega arith
-at-most-one false = omega arith
 
 pub given-once : (h : Hub) (d : Duty) → given_in_hub h d ≤ 1
 given-once h (duty.Ticket t) = omega arith

@@ -18,7 +18,8 @@ use Rattle.napi_types.specs.environment.Hooked.{is_from_finals_on, StandsIn, IsH
 use Rattle.napi_types.specs.environment.PromiseCalls.{reaction_state}
 use Rattle.napi_types.specs.environment.Tickets.{ticket_in, next_ticket}
 use Rattle.napi_types.specs.all_runs.SettledPromises as told
-use Rattle.napi_types.specs.all_runs.SettledPromises.{PromiseFact, MadeDeferred, SettledDeferred, AddedReaction, told_begun, told_reactions, has_begun, EarlierHaveBegun, MayBeTold}
+use Rattle.napi_types.specs.all_runs.SettledPromises.{PromiseFact, AddedReaction, told_begun, told_reactions, EarlierHaveBegun}
+use Rattle.napi_types.proofs.plain.Conditions.{true-or-false}
 use Rattle.napi_types.proofs.plain.Lists.{All-left, All-right, of-map}
 use Rattle.napi_types.proofs.parts.Books.{lowest-below}
 use Rattle.napi_types.proofs.parts.Moved.{at-state, at-cause}
@@ -27,7 +28,7 @@ use Rattle.napi_types.proofs.all_runs.Orders.{last-among}
 use Rattle.napi_types.proofs.all_runs.PromiseBooks.{others-same}
 use Rattle.napi_types.proofs.all_runs.PromiseHistory.{History, history, state_by, history-begins}
 use Rattle.napi_types.proofs.all_runs.PromiseReactions.{was-added, kept-begins}
-use Rattle.napi_types.proofs.all_runs.PromiseStates.{view, waiting, Waits, IsTold, IsHistoryOf, true-or-false, told-at}
+use Rattle.napi_types.proofs.all_runs.PromiseStates.{view, waiting, Waits, IsTold, IsHistoryOf, told-at}
 use Rattle.napi_types.proofs.all_runs.PromiseTells.{Keeps, tells_one, none-told}
 use Rattle.napi_types.proofs.all_runs.QuietCalls.{quiet-same, quiet-book, quiet-kept}
 

@@ -8,6 +8,7 @@ use Rattle.napi_types.specs.plain.Lists.{found, has_number}
 use Rattle.napi_types.specs.parts.Book.{Book, Registration, TicketState, Begun, is_owed, made_ended, changed_where, moved, moved_at, registration_at, with_registration, cause_at}
 use Rattle.napi_types.specs.parts.Values.{Value, value_at, link_of, value_changed, with_link, those_of}
 use Rattle.napi_types.proofs.plain.Found.{found-append, found-map, found-filter, found-number, found-All, same-self}
+use Rattle.napi_types.proofs.parts.Books.{ended-keeps}
 use Rattle.napi_types.proofs.parts.Moved.{IsUnder, BeginsFor, under, at-cause, registration_at-changed_where, registration_at-before, registration_at-either, KeepsCause, cause_at-changed_where}
 use Rattle.napi_types.proofs.environment.FrameChanges.{book_left}
 use Rattle.napi_types.proofs.environment.Registrations.{left-kept}
@@ -81,10 +82,6 @@ others-same change keeps test b theirs =
     changed-same change keeps test b (λ n r there why is. absurd (theirs n is (at-cause b n r there ∙ ap Some why)))
 
 -- a ticket ends
-ended-owed : (s : TicketState) → is_owed (made_ended s) ≡ is_owed s
-ended-owed Begun = refl
-ended-owed _ = refl
-
 ended-same : (s : TicketState) → is_owed s ≡ true → made_ended s ≡ s
 ended-same Begun is = cc
 ended-same _ is = refl
@@ -92,7 +89,7 @@ ended-same _ is = refl
 pub end-same : (t : ℕ) (b : Book) → SameReactions b (moved_at made_ended t b)
 end-same t b =
     changed-same (moved made_ended) (λ r. refl) (λ m. m == t) b
-    (λ n r there why is. (ended-owed r.state, λ owed. ap (λ s. record r { state = s }) (ended-same r.state owed)))
+    (λ n r there why is. (ended-keeps r.state, λ owed. ap (λ s. record r { state = s }) (ended-same r.state owed)))
 
 pub left-same : (c : _) (d : Option Duty) (b : Book) → SameReactions b (book_left c d b)
 left-same c d b = left-kept (SameReactions b) b (λ t. end-same t b) c d (same-reactions b)

@@ -11,13 +11,14 @@ use Rattle.napi_types.specs.parts.Promises.{Promise, Deferred, Promises, promise
 use Rattle.napi_types.specs.parts.Values.{value_at, link_of, value_changed, with_link}
 use Rattle.napi_types.specs.environment.Hooked.{is_from_finals_on}
 use Rattle.napi_types.specs.all_runs.SettledPromises.{MadeDeferred, SettledDeferred, AddedReaction}
+use Rattle.napi_types.proofs.plain.Conditions.{true-or-false}
 use Rattle.napi_types.proofs.plain.Found.{found-map, found-number, found-All, apart-above, same-self, turned}
 use Rattle.napi_types.proofs.plain.Maps.{among-holds, has-left}
 use Rattle.napi_types.proofs.parts.Books.{settled-keeps}
 use Rattle.napi_types.proofs.parts.Moved.{registration_at-changed_where, cause_at-changed_where}
 use Rattle.napi_types.proofs.all_runs.PromiseBooks.{changed-stays, linked-own, linked-other}
 use Rattle.napi_types.proofs.all_runs.PromiseHistory.{History, settlement_by, state_by, IsFoundIn, unfound, has-of, settlement-own, settlement-other}
-use Rattle.napi_types.proofs.all_runs.PromiseStates.{PromiseView, waiting, Waits, IsTold, added_under, IsKnown, made_of, IsOpen, IsIssued, IsHistoryOf, true-or-false, made-below}
+use Rattle.napi_types.proofs.all_runs.PromiseStates.{PromiseView, waiting, Waits, IsTold, added_under, IsKnown, made_of, IsOpen, IsIssued, IsHistoryOf, made-below}
 
 -- the reactions of a promise were added to it
 pub reaction-under : (h : History) (v : PromiseView) → IsHistoryOf h v → (p t : ℕ) → is_reaction_of v.promises p t ≡ true → added_under h.added t ≡ Some p

@@ -11,6 +11,7 @@ use Rattle.napi_types.specs.all_runs.SettledPromises as told
 use Rattle.napi_types.specs.all_runs.SettledPromises.{PromiseFact, MadeDeferred, SettledDeferred, AddedReaction, made_in_fact, settled_in_fact, added_in_fact, begun_in_fact, is_of_finals, all_made, all_settled, all_added, all_begun, finals_came}
 use Rattle.napi_types.proofs.plain.Found.{found-append, found-number, found-All, has-found, same-self}
 use Rattle.napi_types.proofs.plain.Lists.{option_or-none}
+use Rattle.napi_types.proofs.plain.Options.{some-of, none-of}
 
 -- what was told so far
 pub record History : Type 0 where
@@ -82,14 +83,6 @@ module _ (ts : List PromiseFact) where
       (none added_in_fact (told.Tells t v) refl) (none begun_in_fact (told.Tells t v) refl) (no-finals (told.Tells t v) refl)
 
 -- WHAT IS FOUND
-some-of : {A : Type 0} (o : Option A) → is_some o ≡ true → (x : A) × (o ≡ Some x)
-some-of None is = let no : ⊥ = cc in absurd no
-some-of (Some x) is = (x, refl)
-
-none-of : {A : Type 0} (o : Option A) → is_some o ≡ false → o ≡ None
-none-of None is = refl
-none-of (Some x) is = let no : ⊥ = cc in absurd no
-
 module _ {A : Type 0} (number : A → ℕ) where
   -- what has the number is found, and what does not is not
   pub found-of : (n : ℕ) (xs : List A) → has number n xs ≡ true → (x : A) × (found number n xs ≡ Some x)

@@ -18,15 +18,17 @@ use Rattle.napi_types.specs.environment.Collection.{is_freed}
 use Rattle.napi_types.specs.environment.Hooked.{is_from_finals_on}
 use Rattle.napi_types.specs.environment.PromiseCalls.{reaction_state}
 use Rattle.napi_types.specs.all_runs.SettledPromises.{MadeDeferred, SettledDeferred, AddedReaction}
+use Rattle.napi_types.proofs.plain.Conditions.{true-or-false}
 use Rattle.napi_types.proofs.plain.Found.{found-map, found-filter, found-number, found-All, apart-below, same-self, turned}
 use Rattle.napi_types.proofs.plain.Maps.{among-holds}
 use Rattle.napi_types.proofs.parts.Books.{due-keeps}
 use Rattle.napi_types.proofs.parts.Moved.{IsUnder, BeginsFor, under, at-state, at-cause, registration-within, registration_at-changed_where, cause_at-changed_where, registration_at-before, registration_at-new, registration_at-either}
 use Rattle.napi_types.proofs.parts.Reaching.{has_number-filter}
+use Rattle.napi_types.proofs.environment.AnswersKeep.{reaction-owed}
 use Rattle.napi_types.proofs.environment.HookedBooks.{rise-push}
 use Rattle.napi_types.proofs.all_runs.PromiseBooks.{SameReactions, those-same, those-none}
 use Rattle.napi_types.proofs.all_runs.PromiseHistory.{History, state_by, found-still, found-push}
-use Rattle.napi_types.proofs.all_runs.PromiseStates.{PromiseView, waiting, Waits, IsTold, added_under, IsKnown, IsOpen, IsHistoryOf, has-none, true-or-false, under-still, told-book}
+use Rattle.napi_types.proofs.all_runs.PromiseStates.{PromiseView, waiting, Waits, IsTold, added_under, IsKnown, IsOpen, IsHistoryOf, has-none, under-still, told-book}
 use Rattle.napi_types.proofs.all_runs.PromiseChanges.{more-reactions, new-reaction}
 
 -- A REACTION IS ADDED
@@ -115,10 +117,6 @@ module _ (h : History) (v : PromiseView) (x : ℕ) (q : Promise) (r : Registrati
     waits = λ is. let w : Waits (is_from_finals_on v.phase) (state_by h.made h.settled b.promise) v.promises b it.registration = it.waits is in
         record { hint = w.hint; state = w.state; among = more-reactions x t v.promises b.promise b.ticket w.among };
   }
-
-  reaction-owed : (state : ℕ) → is_owed (reaction_state state) ≡ true
-  reaction-owed zero = refl
-  reaction-owed (suc n) = refl
 
   new-told : IsTold added_now (is_from_finals_on v.phase) added_then.promises added_then.book a
   new-told =

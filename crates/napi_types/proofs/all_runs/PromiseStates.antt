@@ -16,6 +16,7 @@ use Rattle.napi_types.specs.environment.Environment.{Environment}
 use Rattle.napi_types.specs.environment.Hooked.{is_from_finals_on}
 use Rattle.napi_types.specs.environment.PromiseCalls.{reaction_state}
 use Rattle.napi_types.specs.all_runs.SettledPromises.{MadeDeferred, SettledDeferred, AddedReaction}
+use Rattle.napi_types.proofs.plain.Conditions.{true-or-false}
 use Rattle.napi_types.proofs.plain.Found.{found-with_record, found-number, found-All, has-found, apart-below, apart-above, same-self, has-with_number}
 use Rattle.napi_types.proofs.plain.Maps.{All-with_record}
 use Rattle.napi_types.proofs.all_runs.PromiseBooks.{StaysUnder, SameReactions, KeepsEachLink, more-links}
@@ -109,10 +110,6 @@ other-number P m n holds lacks = by (m == n) refl
     by : (b : Bool) → (m == n) ≡ b → (m == n) ≡ false
     by false is = is
     by true is = absurd (lacks (subst P (eqb-true m n is) holds))
-
-pub true-or-false : (b : Bool) → b ≡ true → b ≡ false → ⊥
-true-or-false true is isnt = cc
-true-or-false false is isnt = cc
 
 -- a promise that was made is one of the first values
 pub made-below : (h : History) (v : PromiseView) → IsHistoryOf h v → (p : ℕ) → has (λ (m : MadeDeferred). m.promise) p h.made ≡ true → p ≤ v.made

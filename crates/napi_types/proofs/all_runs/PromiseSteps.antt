@@ -37,7 +37,7 @@ use Rattle.napi_types.specs.runs.Choice.{waiting_hooks}
 use Rattle.napi_types.specs.runs.Machine.{Machine}
 use Rattle.napi_types.specs.runs.Step.{Step, move_step, has_room}
 use Rattle.napi_types.specs.all_runs.SettledPromises as told
-use Rattle.napi_types.specs.all_runs.SettledPromises.{PromiseFact, told_call, if_accepted, told_begun, told_by, told_of, state_given, finals_came}
+use Rattle.napi_types.specs.all_runs.SettledPromises.{PromiseFact, told_begun, told_by, told_of, state_given}
 use Rattle.napi_types.proofs.plain.Conditions.{and-right}
 use Rattle.napi_types.proofs.environment.AnswersKeep.{course-parts}
 use Rattle.napi_types.proofs.environment.Cases.{asked-by}
@@ -47,7 +47,7 @@ use Rattle.napi_types.proofs.environment.HookedSteps.{GivesNew}
 use Rattle.napi_types.proofs.hub.HubDuties.{delivery-of_hub}
 use Rattle.napi_types.proofs.hub.HubKeeps.{hub_step-what}
 use Rattle.napi_types.proofs.runs.Forms as form
-use Rattle.napi_types.proofs.runs.Forms.{Form, ended-what, event_what, event-what}
+use Rattle.napi_types.proofs.runs.Forms.{Form, event-what}
 use Rattle.napi_types.proofs.runs.NewNumbers.{IsNewIn}
 use Rattle.napi_types.proofs.runs.SharedSteps.{after_shared-alone, is_of_others, others-told}
 use Rattle.napi_types.proofs.runs.StepCases.{StepCase, calls, ends, opens, inits, begins, vanishes, shares, leaves, passes, moves, others, abandons, event_before}

@@ -36,9 +36,10 @@ use Rattle.napi_types.specs.environment.Refusals.{group_refusal, refusal_by_stat
 use Rattle.napi_types.specs.environment.Roots.{roots, reach}
 use Rattle.napi_types.specs.runs.Machine.{Machine}
 use Rattle.napi_types.specs.all_runs.SettledPromises as told
-use Rattle.napi_types.specs.all_runs.SettledPromises.{PromiseFact, MadeDeferred, SettledDeferred, AddedReaction, told_read, told_call, if_accepted, MayBeTold}
+use Rattle.napi_types.specs.all_runs.SettledPromises.{PromiseFact, AddedReaction, told_read, told_call, if_accepted, MayBeTold}
+use Rattle.napi_types.proofs.plain.Conditions.{true-or-false}
 use Rattle.napi_types.proofs.plain.Found.{found-number, found-All, has-found}
-use Rattle.napi_types.proofs.plain.Lists.{none-first, none-last, not-when, not-unless, find-passes, any-map}
+use Rattle.napi_types.proofs.plain.Lists.{none-first, none-last, not-when, not-unless, find-passes, any-map, unempty}
 use Rattle.napi_types.proofs.plain.Maps.{among-holds, has-right}
 use Rattle.napi_types.proofs.parts.AttachedTickets.{HoldsAttached-from, tickets_where-holds}
 use Rattle.napi_types.proofs.parts.Moved.{at-state}
@@ -52,7 +53,7 @@ use Rattle.napi_types.proofs.all_runs.PromiseBooks.{others-same}
 use Rattle.napi_types.proofs.all_runs.PromiseChanges.{was-made, was-unsettled, kept-settles}
 use Rattle.napi_types.proofs.all_runs.PromiseHistory.{History, history, has-of, history-makes, history-settles, history-adds, history-tells}
 use Rattle.napi_types.proofs.all_runs.PromiseReactions.{promise-made, ticket-new, kept-adds, kept-collected}
-use Rattle.napi_types.proofs.all_runs.PromiseStates.{PromiseView, view, IsTold, added_under, IsKnown, IsHistoryOf, true-or-false, told-at, new-promise, new-deferred, kept-makes}
+use Rattle.napi_types.proofs.all_runs.PromiseStates.{PromiseView, view, IsTold, added_under, IsKnown, IsHistoryOf, told-at, new-promise, new-deferred, kept-makes}
 use Rattle.napi_types.proofs.all_runs.QuietCalls.{finalizer-other, quiet-kept, quiet-same, quiet-of, Quiet, quiet-heap, thrown-links}
 
 -- what is told after what was told before: nothing, or one thing that may be; and what the environment holds then
@@ -80,10 +81,6 @@ guarded-early e c guarded none =
 own-none : (e : Environment) (c : Call) → refusal_before_depth e c ≡ None → group_refusal e c ≡ None
 own-none e c none =
     none-last (refusal_in e.texts e.heap c) (group_refusal e c) (none-last (refusal_by_moment e c) (refusal_by_state e c) none)
-
-some-there : {A : Type 0} (o : Option A) → is_some o ≡ true → (x : A) × (o ≡ Some x)
-some-there None is = let no : ⊥ = cc in absurd no
-some-there (Some x) is = (x, refl)
 
 -- EACH CALL THAT TELLS
 module _ (ts : List PromiseFact) (e : Environment) (k : IsHistoryOf (history ts) (view e)) where
@@ -193,10 +190,6 @@ module _ (ts : List PromiseFact) (e : Environment) (k : IsHistoryOf (history ts)
       by true is false its there later = absurd (true-or-false _ (ap test (same_Some q r there) ∙ passes) its)
       by false is true its there later = or_right (q.value == p) _ (later there passes)
       by false is false its there later = later there passes
-
-  unempty : (t : ℕ) (ns : List ℕ) → has_number t ns ≡ true → not (is_empty ns) ≡ true
-  unempty t [] is = let no : ⊥ = cc in absurd no
-  unempty t (n ∷ ns) is = refl
 
   among-roots : (p : ℕ) → has_number p (promise_roots e.promises) ≡ true → has_number p (roots e) ≡ true
   among-roots p is =

@@ -175,7 +175,7 @@ thrown-keeps heap None message = in-scopes-made heap _ refl (omega arith) (omega
 thrown-keeps heap (Some code) message = in-scopes-made heap _ refl (omega arith) (omega arith) (omega arith)
 
 -- a reaction is registered, or due at once
-reaction-owed : (state : ℕ) → is_owed (reaction_state state) ≡ true
+pub reaction-owed : (state : ℕ) → is_owed (reaction_state state) ≡ true
 reaction-owed zero = refl
 reaction-owed (suc n) = refl
 

@@ -11,7 +11,7 @@ use Rattle.std.proofs.lemmas.Map.Keys.{IsDistinct-head, IsDistinct-tail, IsDisti
 use Rattle.std.proofs.lemmas.Map.Views.{any-filter_same}
 use Rattle.napi_types.specs.declared.entry.Cause.TheVariants as cause
 use Rattle.napi_types.specs.plain.Lists.{has, has_number}
-use Rattle.napi_types.specs.parts.AsyncHooks.{AsyncHook, HookState, Set, Waiting, Abandoned, Removed, is_set, is_waiting, in_state, number_under, ticket_of_set, set_ticket, with_async_hook, with_removed, with_begun, with_abandoned}
+use Rattle.napi_types.specs.parts.AsyncHooks.{AsyncHook, HookState, Set, Waiting, Abandoned, Removed, is_set, is_waiting, in_state, number_under, ticket_of_set, set_ticket, with_async_hook, with_removed, with_begun, with_abandoned, count_waiting}
 use Rattle.napi_types.specs.parts.Book.{Book, Registration, cause_at, new_ticket, with_registration, TicketsRise}
 use Rattle.napi_types.specs.parts.Hooks.{Hook, without_hook}
 use Rattle.napi_types.specs.environment.Hooked.{IsForHook, StandsWhileSet, HasItsNumber, AsyncHooksAgree}
@@ -387,3 +387,12 @@ module _ (book : Book) (r : Registration) (hooks : List Hook) (others : List Asy
             ∙ ap (λ o. option_or o (cond (new_ticket book == new_ticket book) (Some row) None)) (none-found (new_ticket book) others below)
             ∙ ap (λ b. cond b (Some row) None) (same-self (new_ticket book)))
             ∙ sym number
+
+-- once they are abandoned none waits
+pub none-waiting : (hooks : List AsyncHook) → count_waiting (with_abandoned hooks) ≡ 0
+none-waiting [] = refl
+none-waiting (h ∷ hs) = by (is_waiting h.state) refl (none-waiting hs)
+  where
+    by : (b : Bool) → is_waiting h.state ≡ b → count_waiting (with_abandoned hs) ≡ 0 → count_waiting (cond b (in_state Abandoned h) h ∷ with_abandoned hs) ≡ 0
+    by true is later = later
+    by false is later = rw is later

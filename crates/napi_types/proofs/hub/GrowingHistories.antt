@@ -43,7 +43,7 @@ leads-more limit threads workers history h x led next fits = record {
     zero-left n = omega arith
 
 -- FRONTS
-along-parts : (h : Hub) (prefix rest : List Entry) → hub_along h (prefix ++ rest) ≡ hub_along (hub_along h prefix) rest
+pub along-parts : (h : Hub) (prefix rest : List Entry) → hub_along h (prefix ++ rest) ≡ hub_along (hub_along h prefix) rest
 along-parts h [] rest = refl
 along-parts h (x ∷ prefix) rest = along-parts (hub_step h x).after prefix rest
 

@@ -183,7 +183,7 @@ abbrev pub NoneRegistered : Book → Type 0
 NoneRegistered book = All (λ r. is_registered r.state ≡ false) book
 
 -- where all fall due none is registered
-due-registers-none : (s : TicketState) → is_registered (made_due s) ≡ false
+pub due-registers-none : (s : TicketState) → is_registered (made_due s) ≡ false
 due-registers-none Registered = refl
 due-registers-none _ = refl
 

@@ -26,3 +26,8 @@ alike false false there back = refl
 pub and-false : (b : Bool) → (b && false) ≡ false
 and-false true = refl
 and-false false = refl
+
+-- none is both
+pub true-or-false : (b : Bool) → b ≡ true → b ≡ false → ⊥
+true-or-false true is isnt = cc
+true-or-false false is isnt = cc

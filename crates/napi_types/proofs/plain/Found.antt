@@ -1,5 +1,5 @@
 -- What is found in a finite map: a list of records by rising number.
-use Rattle.std.proofs.Common.{◌≡◌, ◌∙◌, ℕ, ◌<◌, ◌==◌, nat_lt, ◌||◌, Bool, true, false, not, cond, List, [], ◌∷◌, ◌++◌, filter, Option, Some, None, is_some, option_map, refl, ap, sym, subst, arith, suc, ◌+◌, ◌≤◌, inl, inr, map}
+use Rattle.std.proofs.Common.{◌≡◌, ◌∙◌, ℕ, ◌<◌, ◌==◌, nat_lt, ◌||◌, Bool, true, false, not, cond, List, [], ◌∷◌, ◌++◌, filter, Option, Some, None, is_some, option_map, refl, ap, sym, subst, arith, suc, ◌+◌, ◌≤◌, inl, inr, map, nat_eq}
 use Rattle.std.specs.List.{All}
 use Rattle.std.specs.Option.{option_or, option_and_then}
 use Rattle.std.proofs.lemmas.Bool.{ltb-true, lt-ltb, le-ltb, or_parts, cases_lt}
@@ -23,6 +23,12 @@ same-self n = grind (arith, nat_tests)
 
 pub turned : (m n : ℕ) → (m == n) ≡ (n == m)
 turned m n = grind (arith, nat_tests)
+
+pub same-from : (m n : ℕ) → nat_eq m n ≡ true → m ≡ n
+same-from m n is = grind (arith, nat_tests)
+
+pub equal-tests : (m n : ℕ) → (m == n) ≡ nat_eq n m
+equal-tests m n = grind (arith, nat_tests)
 
 pub next-same : (m n : ℕ) → (suc m == suc n) ≡ (m == n)
 next-same m n = grind (arith, nat_tests)

@@ -1,11 +1,11 @@
 -- On lists and options: what a change leaves, what is found first, one option after another.
-use Rattle.std.proofs.Common.{◌≡◌, ◌≢◌, ◌∙◌, ℕ, zero, suc, ◌+◌, ◌<◌, ◌≤◌, ◌⊎◌, inl, inr, ◌||◌, Bool, true, false, cond, List, [], ◌∷◌, ◌++◌, map, length, Option, Some, None, refl, ap, sym, arith, is_some}
+use Rattle.std.proofs.Common.{◌≡◌, ◌≢◌, ◌∙◌, ℕ, zero, suc, ◌+◌, ◌<◌, ◌≤◌, ◌⊎◌, inl, inr, ◌||◌, Bool, true, false, cond, List, [], ◌∷◌, ◌++◌, map, length, Option, Some, None, refl, ap, sym, arith, is_some, not}
 use Rattle.std.specs.List.{All, find, list_any, range_with_len}
 use Rattle.std.specs.Option.{option_or}
 use Rattle.std.proofs.lemmas.Bool.{cases_eq}
 use Rattle.std.proofs.lemmas.List.Elements.{All-nil, All-cons, All-head, All-tail}
 use Rattle.napi_types.specs.declared.status.Status.{Status}
-use Rattle.napi_types.specs.plain.Lists.{first_changed, tail, when, unless}
+use Rattle.napi_types.specs.plain.Lists.{first_changed, tail, when, unless, has_number, is_empty}
 use Rattle.napi_types.proofs.plain.Found.{next-above}
 
 -- ELEMENTS
@@ -39,6 +39,11 @@ All-right P (x ∷ xs) ys all = All-right P xs ys (All-tail P x (xs ++ ys) all)
 pub of-map : {A B : Type 0} (P : B → Type 0) (f : A → B) (ys : List A) → All P (map f ys) → All (λ y. P (f y)) ys
 of-map P f [] all = All-nil (λ y. P (f y))
 of-map P f (y ∷ ys) all = All-cons (λ z. P (f z)) y ys (All-head P (f y) (map f ys) all) (of-map P f ys (All-tail P (f y) (map f ys) all))
+
+-- a list in which a number stands has one
+pub unempty : (n : ℕ) (ns : List ℕ) → has_number n ns ≡ true → not (is_empty ns) ≡ true
+unempty n [] is = let no : ⊥ = cc in absurd no
+unempty n (m ∷ ns) is = refl
 
 -- THE FIRST THAT PASSES
 pub find-passes : {A : Type 0} (test : A → Bool) (xs : List A) (x : A) → find test xs ≡ Some x → test x ≡ true

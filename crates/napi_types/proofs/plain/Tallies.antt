@@ -14,6 +14,10 @@ pub is-one : (b : Bool) → cond b 1 0 ≡ one_if b
 is-one true = refl
 is-one false = refl
 
+pub at-most-one : (b : Bool) → one_if b ≤ 1
+at-most-one true = omega arith
+at-most-one false = omega arith
+
 pub none-more : (n : ℕ) → 0 + n ≡ n
 none-more n = omega arith
 

@@ -54,7 +54,7 @@ TicketsAreOnce = (s : Setting) (bs : List Ask) (xs : List Entry) → EndsBy s bs
 abbrev pub WithdrawnByTheirCalls : Type 0
 WithdrawnByTheirCalls = (s : Setting) (bs : List Ask) (xs : List Entry) → RunsBy s bs xs → All WithdrawsRightly xs
 
--- in every run to its end, whatever threads and workers do, each duty that is made and not withdrawn begins exactly once, and one that is withdrawn never; those
--- calls alone withdraw
+-- in every run to its end, whatever threads and workers do, each duty that is made and not withdrawn begins exactly once, and one that is withdrawn never;
+-- those calls alone withdraw
 abbrev pub EveryDutyIsOnce : Type 0
 EveryDutyIsOnce = (s : Setting) (bs : List Ask) (xs : List Entry) → EndsBy s bs xs → Once xs

@@ -116,7 +116,8 @@ facts_of (call.RemoveAsyncCleanupHook _) = in_group OnHooks
 facts_of call.CreatePromise = record (in_group OnPromises) { guarded = true; grows = true }
 facts_of (call.ResolveDeferred _ v) = record (in_group OnPromises) { guarded = true; handles = singleton v.0 }
 facts_of (call.RejectDeferred _ v) = record (in_group OnPromises) { guarded = true; handles = singleton v.0 }
-facts_of (call.AddReaction h _ _) = record (in_group OnPromises) { guarded = true; registers = true; grows = true; need = 1 + duty_places; handles = singleton h.0 }
+facts_of (call.AddReaction h _ _) =
+    record (in_group OnPromises) { guarded = true; registers = true; grows = true; need = 1 + duty_places; handles = singleton h.0 }
 facts_of call.GetReactionValue = record (in_group OnPromises) { grows = true }
 facts_of (call.IsPromise h) = record (in_group OnValues) { handles = singleton h.0 }
 facts_of (call.CreateAsyncWork _ _ _) = record (in_group OnWorks) { registers = true; grows = true }

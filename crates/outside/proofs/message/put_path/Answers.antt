@@ -1,5 +1,6 @@
 use Rattle.std.proofs.Common.{codes}
-use Rattle.outside.proofs.Pieces.{at-err, cut-first, cut-second, cut-third, three-known}
+use Rattle.napi_types.proofs.plain.Options.{at-err}
+use Rattle.outside.proofs.Pieces.{cut-first, cut-second, cut-third, three-known}
 use Rattle.outside.proofs.message.put_path.Goals as goal
 
 pub returns-in_err-put_text-clause-err : goal.returns-in_err-put_text-clause-err

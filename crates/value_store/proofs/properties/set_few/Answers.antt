@@ -1,6 +1,6 @@
 use Rattle.std.proofs.Common.{◌∙◌, sym}
+use Rattle.napi_types.proofs.plain.Options.{at-err}
 use Rattle.value_store.proofs.FewProperties.{place-set, none-insert, none-lookup}
-use Rattle.value_store.proofs.Outcomes.{err-with}
 use Rattle.value_store.proofs.properties.set_few.Goals as goal
 
 pub returns-in-Some-clause-set : goal.returns-in-Some-clause-set
@@ -10,4 +10,4 @@ pub returns-in_ok-push-in-None-clause-set : goal.returns-in_ok-push-in-None-clau
 returns-in_ok-push-in-None-clause-set c = c.in_ok-push-in-None.ensures.items ∙ none-insert c.args.name c.args.entries.now.items (rw c.deref.ensures.value at c.in-None.ensures) c.args.to
 
 pub returns-in_err-push-in-None-clause-absent : goal.returns-in_err-push-in-None-clause-absent
-returns-in_err-push-in-None-clause-absent c = err-with c.from_residual.result (sym (none-lookup c.args.name c.args.entries.now.items (rw c.deref.ensures.value at c.in-None.ensures)))
+returns-in_err-push-in-None-clause-absent c = at-err c.from_residual.result (sym (none-lookup c.args.name c.args.entries.now.items (rw c.deref.ensures.value at c.in-None.ensures)))

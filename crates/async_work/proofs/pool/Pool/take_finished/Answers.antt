@@ -1,5 +1,6 @@
 use Rattle.std.proofs.Common.{◌≡◌, ◌∙◌, ◌-◌, ◌∷◌, true, false, Some, option_map, map, set, sym, ap, subst}
 use Rattle.std.specs.Option.{option_and_then}
+use Rattle.std.proofs.lemmas.Option.{same_Some}
 use Rattle.napi_types.specs.declared.duties.DueInfo.{DueInfo}
 use Rattle.napi_types.specs.plain.Lists.{head}
 use Rattle.napi_types.specs.parts.Pool.{WorkPool, work_numbered, completion_info, first_completion, with_completed}
@@ -10,7 +11,7 @@ use Rattle.async_work.specs.Picking.{unspent_spec}
 use Rattle.async_work.specs.WorkPlaces.{places_seen, place_at, work_of}
 use Rattle.async_work.proofs.Ids.{places-rise}
 use Rattle.async_work.proofs.KeepingPools.{OnlyEnded, only-ended, entry-live, kept-completed}
-use Rattle.async_work.proofs.Linking.{ended-unfinished, first-ended, first-told, same-some, stage-of}
+use Rattle.async_work.proofs.Linking.{ended-unfinished, first-ended, first-told, stage-of}
 use Rattle.async_work.proofs.Queueing.{with_stage_at-there}
 use Rattle.async_work.proofs.StandingWorks.{numbered-at, unspent-of}
 use Rattle.async_work.proofs.Viewing.{view-completed}
@@ -49,7 +50,7 @@ there : (g : _) (c : After-complete-id g) (b : In_ok-outcome g) → (e : Numbere
     → (s : StandsInQueue (places_seen g.J.Job.spec c.self.inside.places) c.in_ok-outcome.outcome.number e)
     → place_at (places_seen g.J.Job.spec c.self.inside.places) c.complete-id.result ≡ Some s.place
 there g c b e at s =
-    let id : e.id ≡ c.complete-id.result = same-some _ _ (sym (ap (option_map (λ (x : NumberedWork). x.id)) at) ∙ c.complete-id.ensures.id) in
+    let id : e.id ≡ c.complete-id.result = same_Some _ _ (sym (ap (option_map (λ (x : NumberedWork). x.id)) at) ∙ c.complete-id.ensures.id) in
     ap (place_at (places_seen g.J.Job.spec c.self.inside.places)) (sym id) ∙ s.there
 
 pub unreachable-requires : goal.unreachable-requires
@@ -77,7 +78,7 @@ returns-clause-told g c =
     let b = (goal.at.returns-clause-told g c).In_ok-outcome in
     let o = outcome_seen g.J.Job.spec c.in_ok-outcome.outcome in
     let s = stands g b in
-    let placed = same-some _ _ (c.in-Some.ensures ∙ there g (goal.at.returns-clause-told g c).After-complete-id b _ (entry g b).1 s) in
+    let placed = same_Some _ _ (c.in-Some.ensures ∙ there g (goal.at.returns-clause-told g c).After-complete-id b _ (entry g b).1 s) in
     let pool = pool_of (places_seen g.J.Job.spec c.self.inside.places) c.self.inside.places.issued c.self.inside.line.works
     (outcomes_seen g.J.Job.spec c.self.inside.finished.items) c.self.inside.closing in
     ap (λ (d : DueInfo). Some d) (c.finished_of.ensures.told ∙ ap (λ p. completion_info (work_of 0 p) (outcome_of o)) placed)

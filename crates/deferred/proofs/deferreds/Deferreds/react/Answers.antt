@@ -1,6 +1,7 @@
 use Rattle.std.proofs.Common.{◌∙◌, nat_eq, cond, [], Some, refl, sym, ap}
 use Rattle.napi_types.specs.parts.Promises.{with_reaction}
-use Rattle.deferred.proofs.Views.{seen, view-same, row-there, never-both, never-none, kept-none, added-tied, added-view, on-err}
+use Rattle.napi_types.proofs.plain.Options.{at-err}
+use Rattle.deferred.proofs.Views.{seen, view-same, row-there, never-both, never-none, kept-none, added-tied, added-view}
 use Rattle.deferred.proofs.deferreds.Deferreds.react.Goals as goal
 
 pub returns-then-contains_key-clause-added : goal.returns-then-contains_key-clause-added
@@ -16,7 +17,7 @@ returns-in_err-add-clause-there c v has =
 
 pub returns-in_err-add-clause-err : goal.returns-in_err-add-clause-err
 returns-in_err-add-clause-err c =
-    on-err _ _ (view-same _ _ _ _ _ [] _ c.self.invariant 0 c.in_err-add.ensures.err (λ n. refl) ∙ (seen c.self.view_is))
+    at-err _ (view-same _ _ _ _ _ [] _ c.self.invariant 0 c.in_err-add.ensures.err (λ n. refl) ∙ (seen c.self.view_is))
 
 pub invariant_of-self-2 : goal.invariant_of-self-2
 invariant_of-self-2 c =

@@ -2,7 +2,8 @@ use Rattle.std.proofs.Common.{◌≡◌, ◌∙◌, ◌+◌, take, get_or, sym, 
 use Rattle.std.proofs.lemmas.List.{take_all}
 use Rattle.napi_types.specs.parts.Promises.{promises_left}
 use Rattle.wrap_tag.specs.Wraps.{is_one_of}
-use Rattle.env_registry.proofs.FreedPromises.{left-none, left-more, take-next}
+use Rattle.wrap_tag.proofs.FreeingRows.{take-next}
+use Rattle.env_registry.proofs.FreedPromises.{left-none, left-more}
 use Rattle.env_registry.proofs.registry.promises.take_away.Goals as goal
 
 pub loop-value-init : goal.loop-value-init

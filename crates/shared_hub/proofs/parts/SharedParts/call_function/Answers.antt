@@ -1,11 +1,12 @@
 use Rattle.std.proofs.Common.{Ok, ap}
+use Rattle.napi_types.proofs.plain.Options.{at-err}
 use Rattle.shared_hub.specs.HubParts.{HubParts}
-use Rattle.shared_hub.proofs.AnsweredFunctions.{call-answers, call-accepted, on-stop}
+use Rattle.shared_hub.proofs.AnsweredFunctions.{call-answers, call-accepted}
 use Rattle.shared_hub.proofs.parts.SharedParts.call_function.Goals as goal
 
 pub returns-in_err-tried-clause-accepted : goal.returns-in_err-tried-clause-accepted
 returns-in_err-tried-clause-accepted g c = λ given.
-    on-stop c.from_residual.result _
+    at-err c.from_residual.result
     (rw (← c.self.view_is) (call-accepted (record { pool = c.self.inside.pool; functions = c.self.inside.functions }) c.args.who given c.args.id c.args.payload c.args.mode c.in_err-tried.ensures.memory))
 
 pub returns-clause-ok : goal.returns-clause-ok

@@ -1,8 +1,8 @@
-use Rattle.std.proofs.Common.{◌∙◌, ◌<◌, ◌^◌, set, sum_by, ap, sym, arith, Result, Ok, Err}
+use Rattle.std.proofs.Common.{◌∙◌, ◌<◌, ◌^◌, set, sum_by, ap, sym, arith}
 use Rattle.std.specs.Option.{option_and_then}
-use Rattle.std.specs.Result.{OnErr}
 use Rattle.napi_types.specs.parts.Functions.{call_status, called}
 use Rattle.napi_types.specs.hub.HistoryRoom.{function_places}
+use Rattle.napi_types.proofs.plain.Options.{at-err}
 use Rattle.tsfn.specs.FunctionList.{tried_there}
 use Rattle.tsfn.proofs.FunctionChanges.{IsChange, called-change}
 use Rattle.tsfn.proofs.Totals.{Stands, may-recount, kept-changed, still-few, stays-busy}
@@ -56,12 +56,8 @@ returns-clause-called c =
 
 pub returns-in_err-tried-clause-memory : goal.returns-in_err-tried-clause-memory
 returns-in_err-tried-clause-memory c =
-    on-err c.from_residual.result
+    at-err c.from_residual.result
     (rw (← c.self.view_is)
     (ap (option_and_then (call_status c.args.who c.args.mode)) (there c.self.inside.list.items c.self.invariant.numbered c.in-Some.place c.args.id.0 c.index_mut-function.result.now
     (rw (← c.self.view_is) at c.in-Some.ensures.there.0) c.in-Some.ensures.there.1 c.index_mut-function.ensures.value)
     ∙ c.in_err-tried.ensures.memory))
-  where
-    on-err : {T E P : Type 0} (r : Result T E) → P → OnErr r P
-    on-err (Ok t) p = tt
-    on-err (Err e) p = p

@@ -1,7 +1,7 @@
 use Rattle.std.proofs.Common.{◌≡◌, ◌+◌, ◌∙◌, max, option_map, ap, arith}
 use Rattle.napi_types.specs.declared.ids.ValueId.{ValueId}
+use Rattle.napi_types.proofs.plain.Options.{at-err}
 use Rattle.value_store.proofs.ElementMaps.{listed_elements-set, within-set, element_at-listed}
-use Rattle.value_store.proofs.Outcomes.{err-with}
 use Rattle.value_store.proofs.elements.Elements.set.Goals as goal
 
 pub invariant_of-self-2 : goal.invariant_of-self-2
@@ -18,5 +18,5 @@ returns-clause-set c =
 
 pub returns-in_err-insert-clause-absent : goal.returns-in_err-insert-clause-absent
 returns-in_err-insert-clause-absent c =
-    err-with c.from_residual.result
+    at-err c.from_residual.result
     (rw (← c.self.view_is) (element_at-listed c.self.inside.values.entries c.self.inside.count c.args.at c.self.invariant.within ∙ ap (option_map (λ (v : ValueId). v.0)) c.in_err-insert.ensures.absent))

@@ -1,8 +1,8 @@
 use Rattle.std.proofs.Common.{◌∙◌, nat_eq, ap, sym}
 use Rattle.std.specs.Map.{values_of, lookup}
 use Rattle.indexmap.specs.IndexMap.{insert_entry}
+use Rattle.napi_types.proofs.plain.Options.{at-err}
 use Rattle.value_store.proofs.OrderedMaps.{never-both, found, missing, changed-is, kept-changed}
-use Rattle.value_store.proofs.Outcomes.{err-with}
 use Rattle.value_store.proofs.ordered.Ordered.set.Goals as goal
 
 pub returns-in_err-insert-in-Some-clause-absent : goal.returns-in_err-insert-in-Some-clause-absent
@@ -27,4 +27,4 @@ returns-in_ok-insert-in-Some-clause-set c =
 
 pub returns-in-None-clause-absent : goal.returns-in-None-clause-absent
 returns-in-None-clause-absent c =
-    err-with c.add.result (ap (lookup (nat_eq c.args.name)) (sym c.self.view_is) ∙ missing c.self.inside.by_number c.self.inside.by_name c.args.name c.self.invariant (sym c.in-None.ensures.value))
+    at-err c.add.result (ap (lookup (nat_eq c.args.name)) (sym c.self.view_is) ∙ missing c.self.inside.by_number c.self.inside.by_name c.args.name c.self.invariant (sym c.in-None.ensures.value))

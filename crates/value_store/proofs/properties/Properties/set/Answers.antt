@@ -1,8 +1,9 @@
 use Rattle.std.proofs.Common.{ap, sym, is_some, ◌∙◌}
+use Rattle.napi_types.proofs.plain.Options.{at-err}
 use Rattle.value_store.specs.PropertyMaps.{listed_properties}
 use Rattle.value_store.proofs.FewProperties.{distinct-set, absent-listed, absent-unplaced}
 use Rattle.value_store.proofs.PropertyMaps.{listed_properties-insert_entry}
-use Rattle.value_store.proofs.Outcomes.{ok-then, err-then, err-with}
+use Rattle.value_store.proofs.Outcomes.{ok-then, err-then}
 use Rattle.value_store.proofs.properties.Properties.set.Goals as goal
 
 pub invariant_of-self : goal.invariant_of-self
@@ -26,17 +27,17 @@ returns-then-len-lt-FEW-clause-absent c =
 pub returns-in_err-map-in-Few-clause-absent : goal.returns-in_err-map-in-Few-clause-absent
 returns-in_err-map-in-Few-clause-absent c =
     let gone = rw c.deref.ensures.value at (ap is_some (sym c.place_of.ensures) ∙ sym c.is_some.ensures ∙ c.if-is_some.false) in
-    err-with c.from_residual.result (rw (← c.self.view_is, c.in-Few.is) (absent-unplaced c.args.name.0 c.in-Few.entries.items gone))
+    at-err c.from_residual.result (rw (← c.self.view_is, c.in-Few.is) (absent-unplaced c.args.name.0 c.in-Few.entries.items gone))
 
 pub returns-in_err-new-in-Few-clause-absent : goal.returns-in_err-new-in-Few-clause-absent
 returns-in_err-new-in-Few-clause-absent c =
     let gone = rw c.deref.ensures.value at (ap is_some (sym c.place_of.ensures) ∙ sym c.is_some.ensures ∙ c.if-is_some.false) in
-    err-with c.from_residual-in_err-new-in-Few.result (rw (← c.self.view_is, c.in-Few.is) (absent-unplaced c.args.name.0 c.in-Few.entries.items gone))
+    at-err c.from_residual-in_err-new-in-Few.result (rw (← c.self.view_is, c.in-Few.is) (absent-unplaced c.args.name.0 c.in-Few.entries.items gone))
 
 pub returns-in_err-insert-in-Many-clause-absent : goal.returns-in_err-insert-in-Many-clause-absent
 returns-in_err-insert-in-Many-clause-absent c =
     let gone = rw c.deref_mut.ensures.value at c.in_err-insert-in-Many.ensures.absent in
-    err-with c.from_residual-in_err-insert-in-Many.result (rw (← c.self.view_is, c.in-Many.is) (absent-listed c.args.name.0 c.in-Many.map.value.entries gone))
+    at-err c.from_residual-in_err-insert-in-Many.result (rw (← c.self.view_is, c.in-Many.is) (absent-listed c.args.name.0 c.in-Many.map.value.entries gone))
 
 pub invariant_of-self-in-Ordered : goal.invariant_of-self-in-Ordered
 invariant_of-self-in-Ordered c =
