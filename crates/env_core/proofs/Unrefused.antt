@@ -22,11 +22,6 @@ use Rattle.env_core.proofs.CoreExceptions.{thrown-refusal}
 use Rattle.env_core.proofs.Referring.{referring, NamesReference, by-reference, seen-refusal}
 use Rattle.env_core.proofs.ValueAnswers.{timely-value}
 
--- what holds in any case
-pub on-err : {A E P : Type 0} (r : Result A E) → P → OnErr r P
-on-err (Ok x) p = tt
-on-err (Err x) p = p
-
 -- a call stops so where its parts say that it leaves all as it was, and that nothing refuses it
 pub stopped : {A E : Type 0} (old new : Environment) (c : Call) (refused : Option Status) (r : Result A E)
     → OnErr r (new ≡ old) → OnErr r (IsTrue (is_growing c)) → OnErr r (refused ≡ None) → OnErr r (FindsNoMemory old c refused new)

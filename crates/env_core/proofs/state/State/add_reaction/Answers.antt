@@ -1,6 +1,7 @@
 use Rattle.std.proofs.Common.{◌∙◌, not, refl, ap}
 use Rattle.napi_types.specs.environment.PromiseCalls.{reaction_of}
 use Rattle.napi_types.specs.parts.Promises.{state_now}
+use Rattle.napi_types.proofs.plain.Options.{at-err}
 use Rattle.napi_reference.specs.ReferencePlaces.{map_of}
 use Rattle.env_values.proofs.HandleValues.{given-live}
 use Rattle.env_core.specs.contracts.state.State.{the_view}
@@ -8,7 +9,6 @@ use Rattle.env_core.proofs.Beginning.{begun-registered}
 use Rattle.env_core.proofs.PromiseAnswers.{react-unknown, react-refused, react-unrefused, react-answers}
 use Rattle.env_core.proofs.Promising.{promised-reacting}
 use Rattle.env_core.proofs.Reacting.{no-reaction}
-use Rattle.env_core.proofs.Unrefused.{on-err}
 use Rattle.env_core.proofs.state.State.add_reaction.Goals as goal
 
 pub returns-in_default-clause-ok : goal.returns-in_default-clause-ok
@@ -39,7 +39,7 @@ returns-in_err-duty-clause-unrefused c =
     let s = c.self.inside in
     let live = given-live s.store s.scopes c.args.promise.0 c.in-Some.value.0 c.self.invariant.0.live c.in-Some.ensures in
     rw (← c.self.view_is)
-    (on-err _
+    (at-err _
     (react-unrefused (the_view s) s.store s.scopes (map_of s.references) s.tsfn_roots s.registry.parts.attachments s.exceptions.pending s.registry.parts.promises
     c.args.promise c.args.entry c.args.payload c.in-Some.value.0 c.invariant.ensures live c.self.invariant.3 c.in-Some.ensures
     (rw (← c.promise_state.ensures) (c.is_none.ensures ∙ ap not c.if-is_none.false))))

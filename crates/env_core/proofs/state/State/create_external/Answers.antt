@@ -1,4 +1,5 @@
 use Rattle.std.proofs.Common.{◌∙◌, option_map}
+use Rattle.napi_types.proofs.plain.Options.{at-err}
 use Rattle.napi_reference.specs.ReferencePlaces.{map_of}
 use Rattle.env_registry.specs.Registering.{finalizer_registration, ticket_for}
 use Rattle.env_core.specs.contracts.state.State.{the_view}
@@ -7,7 +8,6 @@ use Rattle.env_core.proofs.Attaching.{attached-kept, attachments-kept}
 use Rattle.env_core.proofs.Promising.{promised-kept, promises-kept}
 use Rattle.env_core.proofs.TsfnRooting.{roots-live, roots-kept}
 use Rattle.env_core.proofs.Registered.{begun-asked, attached-finalized, given-frames, external-answers}
-use Rattle.env_core.proofs.Unrefused.{on-err}
 use Rattle.env_core.proofs.ValueAnswers.{pending-live, pending-kept, referred-live, references-kept, same-seen}
 use Rattle.env_core.proofs.state.State.create_external.Goals as goal
 
@@ -16,7 +16,7 @@ returns-in_err-value-clause-err c =
     let s = c.self.inside in
     let g = c.make_held in
     rw (← c.self.view_is, c.reserve_finalizer.ensures.same)
-    (on-err _
+    (at-err _
     (same-seen (the_view s) s.store g.new.store s.scopes g.new.scopes
     (map_of s.references) s.tsfn_roots s.registry.parts.attachments s.exceptions.pending s.registry.parts.promises g.ensures.keeps.values
     c.self.invariant.0.referred c.self.invariant.0.rooted c.self.invariant.1 c.self.invariant.0.pending c.self.invariant.3 c.in_err-value.ensures.err))

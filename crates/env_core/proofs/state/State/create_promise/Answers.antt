@@ -1,11 +1,11 @@
 use Rattle.std.proofs.Common.{◌∙◌}
+use Rattle.napi_types.proofs.plain.Options.{at-err}
 use Rattle.napi_reference.specs.ReferencePlaces.{map_of}
 use Rattle.env_core.specs.contracts.state.State.{the_view}
 use Rattle.env_core.proofs.Attaching.{attached-kept}
 use Rattle.env_core.proofs.PromiseAnswers.{created-answers, created-frames}
 use Rattle.env_core.proofs.Promising.{promised-kept, promised-made}
 use Rattle.env_core.proofs.TsfnRooting.{roots-live}
-use Rattle.env_core.proofs.Unrefused.{on-err}
 use Rattle.env_core.proofs.ValueAnswers.{pending-live, referred-live, same-seen}
 use Rattle.env_core.proofs.state.State.create_promise.Goals as goal
 
@@ -14,7 +14,7 @@ returns-in_err-promise-clause-err c =
     let s = c.self.inside in
     let g = c.make_promise in
     rw (← c.self.view_is, c.reserve_promise.ensures.same)
-    (on-err _
+    (at-err _
     (same-seen (the_view s) s.store g.new.store s.scopes g.new.scopes
     (map_of s.references) s.tsfn_roots s.registry.parts.attachments s.exceptions.pending s.registry.parts.promises g.ensures.keeps.values
     c.self.invariant.0.referred c.self.invariant.0.rooted c.self.invariant.1 c.self.invariant.0.pending c.self.invariant.3 c.in_err-promise.ensures.err))

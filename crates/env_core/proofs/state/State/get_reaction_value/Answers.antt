@@ -1,10 +1,10 @@
 use Rattle.std.proofs.Common.{refl, sym}
 use Rattle.napi_types.specs.parts.Graph.{number_in}
+use Rattle.napi_types.proofs.plain.Options.{at-err}
 use Rattle.env_values.proofs.Giving.{given-heap}
 use Rattle.env_core.specs.contracts.state.State.{the_view}
 use Rattle.env_core.proofs.CoreExceptions.{state-issued}
 use Rattle.env_core.proofs.PromiseAnswers.{reads-none, reads-unrefused, reads-answers}
-use Rattle.env_core.proofs.Unrefused.{on-err}
 use Rattle.env_core.proofs.state.State.get_reaction_value.Goals as goal
 
 pub invariant_of-self-in-Some : goal.invariant_of-self-in-Some
@@ -35,4 +35,4 @@ returns-in_ok-handle-in-Some-clause-ok c =
 pub returns-in_err-handle-in-Some-clause-unrefused : goal.returns-in_err-handle-in-Some-clause-unrefused
 returns-in_err-handle-in-Some-clause-unrefused c =
     let s = c.self.inside in
-    rw (← c.self.view_is) (on-err _ (reads-unrefused (the_view s) (number_in s.store c.in-Some.value.0) (sym c.in-Some.ensures.value)))
+    rw (← c.self.view_is) (at-err _ (reads-unrefused (the_view s) (number_in s.store c.in-Some.value.0) (sym c.in-Some.ensures.value)))

@@ -2,12 +2,13 @@ use Rattle.std.proofs.Common.{option_map, refl, ap, sym, ◌∙◌}
 use Rattle.napi_types.specs.declared.call.Call.TheVariants as call
 use Rattle.napi_types.specs.declared.ids.ValueId.{ValueId}
 use Rattle.napi_types.specs.parts.Graph.{number_in}
+use Rattle.napi_types.proofs.plain.Options.{at-err}
 use Rattle.napi_reference.specs.ReferencePlaces.{map_of}
 use Rattle.env_core.specs.contracts.state.State.{the_view}
 use Rattle.env_values.proofs.Giving.{given-heap}
 use Rattle.env_core.proofs.CoreExceptions.{state-issued}
 use Rattle.env_core.proofs.Referring.{refused-answers, gone-answers, told-answers, value-live}
-use Rattle.env_core.proofs.Unrefused.{on-err, reference-unrefused}
+use Rattle.env_core.proofs.Unrefused.{reference-unrefused}
 use Rattle.env_core.proofs.state.State.get_reference_value.Goals as goal
 
 pub invariant_of-self-in-Ok-Some : goal.invariant_of-self-in-Ok-Some
@@ -46,4 +47,4 @@ returns-in-Err-clause-ok c =
 pub returns-in_err-handle-in-Ok-Some-clause-unrefused : goal.returns-in_err-handle-in-Ok-Some-clause-unrefused
 returns-in_err-handle-in-Ok-Some-clause-unrefused c =
     let s = c.self.inside in
-    rw (← c.self.view_is) (on-err _ (reference-unrefused (the_view s) s.store (map_of s.references) (call.GetReferenceValue c.args.reference) c.in-Ok-Some.ensures.refusal refl))
+    rw (← c.self.view_is) (at-err _ (reference-unrefused (the_view s) s.store (map_of s.references) (call.GetReferenceValue c.args.reference) c.in-Ok-Some.ensures.refusal refl))

@@ -2,6 +2,7 @@ use Rattle.std.proofs.Common.{◌≡◌, true, subst, sym}
 use Rattle.napi_types.specs.declared.call.Call.TheVariants as call_of
 use Rattle.napi_types.specs.parts.NamedNumbers.{is_known}
 use Rattle.napi_types.specs.environment.Environment.{Environment}
+use Rattle.napi_types.proofs.plain.Options.{at-err}
 use Rattle.napi_reference.specs.ReferencePlaces.{map_of}
 use Rattle.env_core.specs.contracts.state.State.{the_view}
 use Rattle.env_values.specs.SeenValues.{heap_of}
@@ -10,7 +11,7 @@ use Rattle.env_core.proofs.Attaching.{attachments-kept}
 use Rattle.env_core.proofs.Promising.{promises-kept}
 use Rattle.env_core.proofs.TsfnRooting.{roots-kept}
 use Rattle.env_core.proofs.CoreExceptions.{accepted-thrown}
-use Rattle.env_core.proofs.Unrefused.{on-err, thrown-unrefused}
+use Rattle.env_core.proofs.Unrefused.{thrown-unrefused}
 use Rattle.env_core.proofs.ValueAnswers.{references-kept}
 use Rattle.env_core.proofs.state.State.throw_error.Goals as goal
 
@@ -34,4 +35,4 @@ returns-clause-ok c =
     (thrown-heap s.store t s.scopes c.args.code c.args.message k.kept.numbers c.self.invariant.0.live k.made k.graph) k.number))
 
 pub returns-in_err-error-clause-unrefused : goal.returns-in_err-error-clause-unrefused
-returns-in_err-error-clause-unrefused c = on-err _ (thrown-unrefused c.args.self.now c.args.code c.args.message c.if-not-knows.ensures)
+returns-in_err-error-clause-unrefused c = at-err _ (thrown-unrefused c.args.self.now c.args.code c.args.message c.if-not-knows.ensures)

@@ -1,7 +1,7 @@
 use Rattle.std.proofs.Common.{◌∙◌, sym}
+use Rattle.napi_types.proofs.plain.Options.{at-err}
 use Rattle.env_core.specs.contracts.state.State.{the_view}
 use Rattle.env_core.proofs.Attaching.{tag-refused, tag-unrefused, tag-answers, untold, attached-with_tag}
-use Rattle.env_core.proofs.Unrefused.{on-err}
 use Rattle.env_core.proofs.state.State.type_tag_object.Goals as goal
 
 pub returns-then-is_some-clause-ok : goal.returns-then-is_some-clause-ok
@@ -18,7 +18,7 @@ returns-in_err-tag-clause-unrefused c =
     let s = c.self.inside in
     let k = c.in-Ok.ensures in
     rw (← c.self.view_is)
-    (on-err _
+    (at-err _
     (tag-unrefused (the_view s) s.store k.sound s.registry.parts.attachments c.self.invariant.1 c.args.object c.in-Ok.value.0 k.live k.number c.args.lower c.args.upper c.tag_of.result
     k.refusal c.tag_of.ensures (sym c.is_some.ensures ∙ c.if-is_some.false)))
 

@@ -1,11 +1,11 @@
 use Rattle.std.proofs.Common.{◌∙◌, ◌||◌, is_some, option_map, refl, sym, ap}
 use Rattle.napi_types.specs.parts.Attachments.{Wrapped, wrap_of}
+use Rattle.napi_types.proofs.plain.Options.{at-err}
 use Rattle.napi_reference.specs.ReferencePlaces.{map_of}
 use Rattle.env_registry.specs.Registering.{finalizer_registration, ticket_for}
 use Rattle.env_core.specs.contracts.state.State.{the_view}
 use Rattle.env_core.proofs.Attaching.{wrap-refused, wrap-unrefused, untold, attached-with_wrap}
 use Rattle.env_core.proofs.Registered.{begun-asked, refers-live, wrap-answers}
-use Rattle.env_core.proofs.Unrefused.{on-err}
 use Rattle.env_core.proofs.state.State.wrap.Goals as goal
 
 pub returns-then-wants_alone-clause-ok : goal.returns-then-wants_alone-clause-ok
@@ -32,7 +32,7 @@ returns-in_err-reserve_wrap-clause-unrefused c =
     let s = c.self.inside in
     let k = c.in-Ok.ensures in
     rw (← c.self.view_is)
-    (on-err _
+    (at-err _
     (wrap-unrefused (the_view s) s.store k.sound s.registry.parts.attachments c.self.invariant.1 c.args.object c.in-Ok.value.0 k.live k.number c.args.payload c.args.hint c.args.finalizer c.args.wanted c.wrapped.result k.refusal c.wrapped.ensures
     (sym c.wants_alone.ensures ∙ c.if-wants_alone.false) (sym c.is_some.ensures ∙ c.if-is_some.false)))
 
@@ -41,7 +41,7 @@ returns-in_err-out-clause-unrefused c =
     let s = c.self.inside in
     let k = c.in-Ok.ensures in
     rw (← c.self.view_is)
-    (on-err _
+    (at-err _
     (wrap-unrefused (the_view s) s.store k.sound s.registry.parts.attachments c.self.invariant.1 c.args.object c.in-Ok.value.0 k.live k.number c.args.payload c.args.hint c.args.finalizer c.args.wanted c.wrapped.result k.refusal c.wrapped.ensures
     (sym c.wants_alone.ensures ∙ c.if-wants_alone.false) (sym c.is_some.ensures ∙ c.if-is_some.false)))
 
