@@ -6,3 +6,4 @@ pub mod ChildParts
 pub mod Moved
 pub mod Moves
 pub mod Reaching
+pub mod PlacedBytes

@@ -1,5 +1,6 @@
 -- The environment: its state, its calls with their refusals, and what each of its events changes.
 pub mod Asks
+pub mod BufferCalls
 pub mod Calls
 pub mod Changes
 pub mod Collection

@@ -1,9 +1,12 @@
--- The parts, each by itself: values, scopes and the heap with its calls; frames, references, attachments, the book, hooks and promises; works and
+-- The parts, each by itself: values, scopes and the heap with its calls; frames, references, attachments, the book, hooks, promises and
+-- buffers; works and
 -- thread-safe functions.
 pub mod AsyncHooks
 pub mod Attachments
 pub mod Bodies
 pub mod Book
+pub mod BufferRefusals
+pub mod Buffers
 pub mod Duties
 pub mod Frames
 pub mod FunctionCalls

@@ -137,6 +137,22 @@ pub enum Call {
     AddReaction(HandleId, u32, u64),
     GetReactionValue,
 
+    // Array buffers and their views.
+    /// The length in bytes.
+    CreateArraybuffer(u64),
+    /// The length in bytes, the payload, the finalizer's entry and its hint.
+    CreateExternalArraybuffer(u64, u64, u32, u64),
+    IsArraybuffer(HandleId),
+    IsDetachedArraybuffer(HandleId),
+    GetArraybufferInfo(HandleId),
+    DetachArraybuffer(HandleId),
+    /// The type by the manual's number, the buffer, the offset in bytes, and the length in elements.
+    CreateTypedarray(u64, HandleId, u64, u64),
+    /// The view and the index. This call and the next are this project's own.
+    GetView(HandleId, u64),
+    /// The view, the index and the number.
+    SetView(HandleId, u64, u64),
+
     // Asynchronous works.
     /// The job, the completion's entry and the payload.
     CreateAsyncWork(JobSpec, u32, u64),
@@ -177,6 +193,7 @@ pub enum CallGroup {
     OnInstances,
     OnHooks,
     OnPromises,
+    OnBuffers,
     OnWorks,
     OnTsfns,
     OnVersion,
@@ -302,6 +319,15 @@ impl Call {
             }
             Call::AddReaction(..) => (CallGroup::OnPromises, true, true, 3),
             Call::GetReactionValue => (CallGroup::OnPromises, false, false, 1),
+            Call::CreateArraybuffer(_)
+            | Call::IsArraybuffer(_)
+            | Call::IsDetachedArraybuffer(_)
+            | Call::GetArraybufferInfo(_)
+            | Call::DetachArraybuffer(_)
+            | Call::GetView(..)
+            | Call::SetView(..) => (CallGroup::OnBuffers, false, false, 1),
+            Call::CreateExternalArraybuffer(..) => (CallGroup::OnBuffers, false, true, 3),
+            Call::CreateTypedarray(..) => (CallGroup::OnBuffers, true, false, 1),
             Call::CreateAsyncWork(..) => (CallGroup::OnWorks, false, true, 1),
             Call::DeleteAsyncWork(_) | Call::CancelAsyncWork(_) => {
                 (CallGroup::OnWorks, false, false, 1)

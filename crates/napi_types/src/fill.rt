@@ -211,6 +211,24 @@ impl Op {
                 payload,
             ),
             Op::GetReactionValue(_) => Call::GetReactionValue,
+            Op::CreateArraybuffer(length, _) => Call::CreateArraybuffer(length),
+            Op::CreateExternalArraybuffer(length, payload, entry, hint, _) => {
+                Call::CreateExternalArraybuffer(length, payload, entry, hint)
+            }
+            Op::IsArraybuffer(value, _) => Call::IsArraybuffer(handle_at(regs, value)),
+            Op::IsDetachedArraybuffer(value, _) => {
+                Call::IsDetachedArraybuffer(handle_at(regs, value))
+            }
+            Op::GetArraybufferInfo(buffer, _) => Call::GetArraybufferInfo(handle_at(regs, buffer)),
+            Op::DetachArraybuffer(buffer) => Call::DetachArraybuffer(handle_at(regs, buffer)),
+            Op::CreateTypedarray(kind, buffer, offset, length, _) => Call::CreateTypedarray(
+                kind,
+                handle_at(regs, buffer),
+                offset,
+                length,
+            ),
+            Op::GetView(view, index, _) => Call::GetView(handle_at(regs, view), index),
+            Op::SetView(view, index, value) => Call::SetView(handle_at(regs, view), index, value),
             Op::CreateAsyncWork(job, entry, payload, _) => Call::CreateAsyncWork(
                 job, entry, payload,
             ),
@@ -319,6 +337,13 @@ impl Op {
             | Op::GetVersion(result)
             | Op::IsPromise(_, result)
             | Op::GetReactionValue(result)
+            | Op::CreateArraybuffer(_, result)
+            | Op::CreateExternalArraybuffer(_, _, _, _, result)
+            | Op::IsArraybuffer(_, result)
+            | Op::IsDetachedArraybuffer(_, result)
+            | Op::GetArraybufferInfo(_, result)
+            | Op::CreateTypedarray(_, _, _, _, result)
+            | Op::GetView(_, _, result)
             | Op::Collect(result) => Some((result, None)),
             Op::Wrap(_, _, _, _, result) | Op::AddFinalizer(_, _, _, _, result) => {
                 Some((result?, None))
@@ -338,6 +363,8 @@ impl Op {
             Op::ResolveDeferred(..)
             | Op::RejectDeferred(..)
             | Op::AddReaction(..)
+            | Op::DetachArraybuffer(_)
+            | Op::SetView(..)
             | Op::DeleteAsyncWork(_)
             | Op::CancelAsyncWork(_)
             | Op::QueueAsyncWork(_)

@@ -20,6 +20,7 @@ mod op;
 mod script;
 mod status;
 mod text;
+mod view;
 
 pub use body::Body;
 pub use call::{Args, Ask, Call, CallGroup, Facts, JobSpec, Mode, Release};
@@ -38,3 +39,4 @@ pub use op::{Op, Regs};
 pub use script::{HIGHEST_VERSION, LOWEST_VERSION, LimitName, Mistake, Script, ScriptPart};
 pub use status::{Kind, Status};
 pub use text::{Text, Texts};
+pub use view::ViewInfo;

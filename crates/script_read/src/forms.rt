@@ -75,6 +75,7 @@ fn with_register(kind: Op, x: u8) -> Option<Op>
         Op::Throw(..) => Some(Op::Throw(x)),
         Op::RemoveAsyncCleanupHook(..) => Some(Op::RemoveAsyncCleanupHook(x)),
         Op::GetReactionValue(..) => Some(Op::GetReactionValue(x)),
+        Op::DetachArraybuffer(..) => Some(Op::DetachArraybuffer(x)),
         Op::DeleteAsyncWork(..) => Some(Op::DeleteAsyncWork(x)),
         Op::CancelAsyncWork(..) => Some(Op::CancelAsyncWork(x)),
         Op::QueueAsyncWork(..) => Some(Op::QueueAsyncWork(x)),
@@ -112,6 +113,9 @@ fn with_two_registers(kind: Op, x: u8, y: u8) -> Option<Op>
         Op::ResolveDeferred(..) => Some(Op::ResolveDeferred(x, y)),
         Op::RejectDeferred(..) => Some(Op::RejectDeferred(x, y)),
         Op::IsPromise(..) => Some(Op::IsPromise(x, y)),
+        Op::IsArraybuffer(..) => Some(Op::IsArraybuffer(x, y)),
+        Op::IsDetachedArraybuffer(..) => Some(Op::IsDetachedArraybuffer(x, y)),
+        Op::GetArraybufferInfo(..) => Some(Op::GetArraybufferInfo(x, y)),
         Op::GetValueInt64(..) => Some(Op::GetValueInt64(x, y)),
         Op::GetValueBigintInt64(..) => Some(Op::GetValueBigintInt64(x, y)),
         Op::GetValueBool(..) => Some(Op::GetValueBool(x, y)),
@@ -149,6 +153,7 @@ fn with_two_arguments(entries: u32, kind: Op, a: &Value, b: &Value) -> Option<Op
             entry_number(entries, a),
             whole(b)
         ),
+        Op::CreateArraybuffer(..) => from!(Op::CreateArraybuffer, whole(a), register(b)),
         Op::ReleaseThreadsafeFunction(..) => from!(
             Op::ReleaseThreadsafeFunction,
             register(a),
@@ -204,6 +209,8 @@ fn with_three_arguments(entries: u32, kind: Op, a: &Value, b: &Value, c: &Value)
             entry_number(entries, b),
             whole(c)
         ),
+        Op::GetView(..) => from!(Op::GetView, register(a), whole(b), register(c)),
+        Op::SetView(..) => from!(Op::SetView, register(a), whole(b), whole(c)),
         Op::CallThreadsafeFunction(..) => from!(
             Op::CallThreadsafeFunction,
             register(a),
@@ -288,6 +295,22 @@ fn with_five_arguments(
             entry_number(entries, c),
             whole(d),
             register_or_none(e)
+        ),
+        Op::CreateExternalArraybuffer(..) => from!(
+            Op::CreateExternalArraybuffer,
+            whole(a),
+            whole(b),
+            entry_number(entries, c),
+            whole(d),
+            register(e)
+        ),
+        Op::CreateTypedarray(..) => from!(
+            Op::CreateTypedarray,
+            whole(a),
+            register(b),
+            whole(c),
+            whole(d),
+            register(e)
         ),
         _ => None,
     }

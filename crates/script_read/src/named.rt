@@ -65,6 +65,8 @@ fn of_eight(name: &str) -> Option<Op>
 {
     match name {
         _ if is(name, "get_null") => Some(Op::GetNull(0)),
+        _ if is(name, "get_view") => Some(Op::GetView(0, 0, 0)),
+        _ if is(name, "set_view") => Some(Op::SetView(0, 0, 0)),
         _ if is(name, "is_array") => Some(Op::IsArray(0, 0)),
         _ if is(name, "is_error") => Some(Op::IsError(0, 0)),
         _ => None,
@@ -142,6 +144,7 @@ fn of_fourteen(name: &str) -> Option<Op>
 {
     match name {
         _ if is(name, "create_promise") => Some(Op::CreatePromise(0, 0)),
+        _ if is(name, "is_arraybuffer") => Some(Op::IsArraybuffer(0, 0)),
         _ if is(name, "get_value_bool") => Some(Op::GetValueBool(0, 0)),
         _ => None,
     }
@@ -184,6 +187,7 @@ fn of_seventeen(name: &str) -> Option<Op>
     match name {
         _ if is(name, "open_handle_scope") => Some(Op::OpenHandleScope(0)),
         _ if is(name, "get_instance_data") => Some(Op::GetInstanceData(0)),
+        _ if is(name, "create_typedarray") => Some(Op::CreateTypedarray(0, 0, 0, 0, 0)),
         _ if is(name, "delete_async_work") => Some(Op::DeleteAsyncWork(0)),
         _ if is(name, "cancel_async_work") => Some(Op::CancelAsyncWork(0)),
         _ if is(name, "set_instance_data") => Some(Op::SetInstanceData(0, None, 0)),
@@ -198,6 +202,8 @@ fn of_eighteen(name: &str) -> Option<Op>
 {
     match name {
         _ if is(name, "close_handle_scope") => Some(Op::CloseHandleScope(0)),
+        _ if is(name, "create_arraybuffer") => Some(Op::CreateArraybuffer(0, 0)),
+        _ if is(name, "detach_arraybuffer") => Some(Op::DetachArraybuffer(0)),
         _ if is(name, "get_value_external") => Some(Op::GetValueExternal(0, 0)),
         _ if is(name, "get_reaction_value") => Some(Op::GetReactionValue(0)),
         _ if is(name, "get_property_names") => Some(Op::GetPropertyNames(0, 0)),
@@ -227,6 +233,7 @@ fn of_twenty(name: &str) -> Option<Op>
 {
     match name {
         _ if is(name, "is_exception_pending") => Some(Op::IsExceptionPending(0)),
+        _ if is(name, "get_arraybuffer_info") => Some(Op::GetArraybufferInfo(0, 0)),
         _ if is(name, "add_env_cleanup_hook") => Some(Op::AddEnvCleanupHook(0, 0)),
         _ => None,
     }
@@ -261,6 +268,7 @@ fn of_twenty_three(name: &str) -> Option<Op>
     match name {
         _ if is(name, "ref_threadsafe_function") => Some(Op::RefThreadsafeFunction(0)),
         _ if is(name, "remove_env_cleanup_hook") => Some(Op::RemoveEnvCleanupHook(0, 0)),
+        _ if is(name, "is_detached_arraybuffer") => Some(Op::IsDetachedArraybuffer(0, 0)),
         _ => None,
     }
 }
@@ -282,6 +290,9 @@ fn of_twenty_seven(name: &str) -> Option<Op>
 {
     match name {
         _ if is(name, "open_escapable_handle_scope") => Some(Op::OpenEscapableHandleScope(0)),
+        _ if is(name, "create_external_arraybuffer") => {
+            Some(Op::CreateExternalArraybuffer(0, 0, 0, 0, 0))
+        }
         _ if is(name, "acquire_threadsafe_function") => Some(Op::AcquireThreadsafeFunction(0)),
         _ if is(name, "release_threadsafe_function") => Some(Op::ReleaseThreadsafeFunction(
             0,

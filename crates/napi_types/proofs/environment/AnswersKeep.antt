@@ -16,6 +16,7 @@ use Rattle.napi_types.specs.plain.Replies.{Answer, accepts}
 use Rattle.napi_types.specs.plain.Room.{one_if, need}
 use Rattle.napi_types.specs.parts.AsyncHooks.{AsyncHook, set_ticket, with_removed}
 use Rattle.napi_types.specs.parts.Book.{Book, is_owed, owed_tickets}
+use Rattle.napi_types.specs.parts.Buffers.{Buffers}
 use Rattle.napi_types.specs.parts.Frames.{Frame, caller_of, ask_counted, is_hub_duty, local_frames}
 use Rattle.napi_types.specs.parts.Heap.{Heap, handle_properties}
 use Rattle.napi_types.specs.parts.HeapCalls.{heap_effect, addon_effect, heap_answer_unless, heap_answer}
@@ -170,6 +171,10 @@ keeps-book : {made dropped : Option Duty} (e : Environment) (book : Book) (hooks
     → BookStep (caller_of e.frames) e.book made dropped book → KeepsBy e made dropped (record e { book = book; hooks = hooks; async_hooks = others })
 keeps-book e book hooks others step = record { course = refl; frames = refl; heap = same e.heap; references = omega arith; deferreds = omega arith; book = step }
 
+-- the values and the buffers change
+linked-keeps : (e : Environment) (b : Buffers) {heap : Heap} → HeapKeeps e.heap heap → KeepsBy e None None (record e { heap = heap; buffers = b })
+linked-keeps e b h = record { course = refl; frames = refl; heap = h; references = omega arith; deferreds = omega arith; book = stays e.book refl }
+
 thrown-keeps : (heap : Heap) (code : Option TextNo) (message : TextNo) → HeapKeeps heap (with_thrown code message heap)
 thrown-keeps heap None message = in-scopes-made heap _ refl (omega arith) (omega arith) (omega arith)
 thrown-keeps heap (Some code) message = in-scopes-made heap _ refl (omega arith) (omega arith) (omega arith)
@@ -218,6 +223,10 @@ does-keeps c e _ none (does.reacts v entry payload) = record {
   book = adds _ _ (reaction-owed (state_now e.promises v)) refl (λ h. cc) refl;
 }
 does-keeps c e _ none (does.reads v is) = keeps-parts e _ _ _ (handled e.heap e.heap _ refl refl refl (omega arith)) (omega arith)
+does-keeps c e _ none (does.makes_buffer size t) = linked-keeps e _ (handled e.heap _ _ refl refl refl (omega arith))
+does-keeps c e _ none (does.makes_view about) = linked-keeps e _ (handled e.heap _ _ refl refl refl (omega arith))
+does-keeps c e _ none (does.detaches v) = linked-keeps e _ (same e.heap)
+does-keeps c e _ none (does.writes v at number) = linked-keeps e _ (same e.heap)
 does-keeps c e _ none (does.adds_hook entry argument) = keeps-book e _ _ _ (adds _ _ refl refl (λ h. cc) refl)
 does-keeps c e _ none (does.removes_hook entry argument) =
     let o : Option ℕ = hook_ticket (caller_of e.frames) entry argument e.hooks in

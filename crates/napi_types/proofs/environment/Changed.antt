@@ -12,6 +12,7 @@ use Rattle.napi_types.specs.plain.Lists.{tail}
 use Rattle.napi_types.specs.parts.AsyncHooks.{AsyncHook, set_ticket, with_removed}
 use Rattle.napi_types.specs.parts.Attachments.{Attachments}
 use Rattle.napi_types.specs.parts.Book.{Book}
+use Rattle.napi_types.specs.parts.Buffers.{Buffers}
 use Rattle.napi_types.specs.parts.Frames.{Frame, caller_of}
 use Rattle.napi_types.specs.parts.Heap.{Heap}
 use Rattle.napi_types.specs.parts.Hooks.{Hook, hook_ticket}
@@ -40,6 +41,7 @@ pub data Changed (c : Call) (e : Environment) : Environment → Type 0 where
   hooks : (d : Environment) (hs : List Hook) → Changed c e d → Changed c e (record d { hooks = hs })
   async_hooks : (d : Environment) (hs : List AsyncHook) → Changed c e d → Changed c e (record d { async_hooks = hs })
   promises : (d : Environment) (p : Promises) → Changed c e d → Changed c e (record d { promises = p })
+  buffers : (d : Environment) (b : Buffers) → Changed c e d → Changed c e (record d { buffers = b })
   instances : (d : Environment) (i : Instances) → Changed c e d → Changed c e (record d { instances = i })
   pending : (d : Environment) (p : Option ℕ) → Changed c e d → Changed c e (record d { pending = p })
   last : (d : Environment) (s : Status) → Changed c e d → Changed c e (record d { last = s })
@@ -55,6 +57,7 @@ pub record Ignores {A : Type 0} (f : Environment → A) : Type 0 where
   pub hooks : (d : Environment) (hs : List Hook) → f (record d { hooks = hs }) ≡ f d
   pub async_hooks : (d : Environment) (hs : List AsyncHook) → f (record d { async_hooks = hs }) ≡ f d
   pub promises : (d : Environment) (p : Promises) → f (record d { promises = p }) ≡ f d
+  pub buffers : (d : Environment) (b : Buffers) → f (record d { buffers = b }) ≡ f d
   pub instances : (d : Environment) (i : Instances) → f (record d { instances = i }) ≡ f d
   pub pending : (d : Environment) (p : Option ℕ) → f (record d { pending = p }) ≡ f d
   pub last : (d : Environment) (s : Status) → f (record d { last = s }) ≡ f d
@@ -71,6 +74,7 @@ changed-keeps f c e _ i x (book d b r) = i.book d b ∙ changed-keeps f c e d i 
 changed-keeps f c e _ i x (hooks d hs r) = i.hooks d hs ∙ changed-keeps f c e d i x r
 changed-keeps f c e _ i x (async_hooks d hs r) = i.async_hooks d hs ∙ changed-keeps f c e d i x r
 changed-keeps f c e _ i x (promises d p r) = i.promises d p ∙ changed-keeps f c e d i x r
+changed-keeps f c e _ i x (buffers d b r) = i.buffers d b ∙ changed-keeps f c e d i x r
 changed-keeps f c e _ i x (instances d j r) = i.instances d j ∙ changed-keeps f c e d i x r
 changed-keeps f c e _ i x (pending d p r) = i.pending d p ∙ changed-keeps f c e d i x r
 changed-keeps f c e _ i x (last d s r) = i.last d s ∙ changed-keeps f c e d i x r
@@ -89,13 +93,18 @@ does-changed c e _ (does.refers n h count) = references e _ stays
 does-changed c e _ (does.deletes r) = references e _ stays
 does-changed c e _ (does.counts r count) = references e _ stays
 does-changed c e _ does.collects =
-    promises (record e { heap = _; references = _; attachments = _; book = _ }) _
+    buffers (record e { heap = _; references = _; attachments = _; book = _; promises = _ }) _
+    (promises (record e { heap = _; references = _; attachments = _; book = _ }) _
     (book (record e { heap = _; references = _; attachments = _ }) _
-    (attachments (record e { heap = _; references = _ }) _ (references (record e { heap = _ }) _ (heap e _ stays))))
+    (attachments (record e { heap = _; references = _ }) _ (references (record e { heap = _ }) _ (heap e _ stays)))))
 does-changed c e _ (does.promises n) = promises (record e { heap = _ }) _ (heap e _ stays)
 does-changed c e _ (does.settles n h state p is) = book (record e { heap = _; promises = _ }) _ (promises (record e { heap = _ }) _ (heap e _ stays))
 does-changed c e _ (does.reacts v entry payload) = book (record e { promises = _ }) _ (promises e _ stays)
 does-changed c e _ (does.reads v is) = heap e _ stays
+does-changed c e _ (does.makes_buffer size t) = heap (record e { buffers = _ }) _ (buffers e _ stays)
+does-changed c e _ (does.makes_view about) = heap (record e { buffers = _ }) _ (buffers e _ stays)
+does-changed c e _ (does.detaches v) = buffers e _ stays
+does-changed c e _ (does.writes v at number) = buffers e _ stays
 does-changed c e _ (does.adds_hook entry argument) = book (record e { hooks = _ }) _ (hooks e _ stays)
 does-changed c e _ (does.removes_hook entry argument) =
     let t : Option ℕ = hook_ticket (caller_of e.frames) entry argument e.hooks in

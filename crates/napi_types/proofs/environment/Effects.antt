@@ -8,18 +8,22 @@ use Rattle.napi_types.specs.declared.entry.Cause.TheVariants as cause
 use Rattle.napi_types.specs.declared.entry.Duty.{Duty}
 use Rattle.napi_types.specs.declared.entry.Out.TheVariants as out
 use Rattle.napi_types.specs.declared.ids.TextNo.{TextNo}
+use Rattle.napi_types.specs.declared.view.ViewInfo.{ViewInfo}
 use Rattle.napi_types.specs.plain.Replies.{Answer, accepts}
 use Rattle.napi_types.specs.parts.Attachments.{Attachments, wrap_payload, wrap_ticket, with_wrap, without_wrap, with_tag, with_attached}
+use Rattle.napi_types.specs.parts.Bodies.{buffer_tag}
 use Rattle.napi_types.specs.parts.Book.{Book, Registration, cause_at, is_registered, is_at, made_withdrawn, moved, moved_at, new_ticket, with_registration, ticket_duty}
+use Rattle.napi_types.specs.parts.Buffers.{with_buffer, with_detached, with_element_written}
 use Rattle.napi_types.specs.parts.Frames.{caller_of}
 use Rattle.napi_types.specs.parts.Heap.{handle_value}
 use Rattle.napi_types.specs.parts.HeapCalls.{addon_effect}
-use Rattle.napi_types.specs.parts.HeapChanges.{new_value, with_handle}
+use Rattle.napi_types.specs.parts.HeapChanges.{new_value, new_linked, with_handle}
 use Rattle.napi_types.specs.parts.Hooks.{hook_ticket}
 use Rattle.napi_types.specs.parts.InstanceData.{InstanceData, instance_ticket, with_instance}
 use Rattle.napi_types.specs.parts.Promises.{deferred_promise}
 use Rattle.napi_types.specs.parts.References.{referred_value, with_reference, without_reference, with_count}
 use Rattle.napi_types.specs.parts.Values.{undefined_value}
+use Rattle.napi_types.specs.environment.BufferCalls.{with_buffers, view_asked, making_view}
 use Rattle.napi_types.specs.environment.Calls.{effect}
 use Rattle.napi_types.specs.environment.Collection.{collected}
 use Rattle.napi_types.specs.environment.Environment.{Environment, with_heap}
@@ -53,6 +57,10 @@ pub data Attaches (book : Book) (a : Attachments) : Attachments → Type 0 where
 abbrev pub removing : Environment → ℕ → ℕ → Answer Environment
 removing e entry argument = unhooking e (hook_ticket (caller_of e.frames) entry argument e.hooks)
 
+-- an environment with a buffer more, and a handle of it
+abbrev pub buffer_made : Environment → ℕ → Option ℕ → Environment
+buffer_made e size t = with_heap (with_buffers (with_buffer (e.heap.made + 1) size t e.buffers) e) (new_linked buffer_tag None e.heap).after
+
 -- what a call makes of the environment, with the duties that it makes and withdraws
 pub data Effect (c : Call) (e : Environment) : Option Duty → Option Duty → Environment → Type 0 where
   -- ONE OF THESE FIRST
@@ -76,6 +84,11 @@ pub data Effect (c : Call) (e : Environment) : Option Duty → Option Duty → E
       → Effect c e None None (with_settlement n p (handle_value e.heap h) state e)
   reacts : (v entry payload : ℕ) → Effect c e (Some (ticket_duty (new_ticket e.book))) None (reacting e v entry payload).after
   reads : (v : ℕ) → reaction_value e ≡ Some v → Effect c e None None (with_heap e (with_handle v e.heap))
+  -- a new buffer, with the ticket of its finalizer where it has one; a new view; a buffer that is detached, and an element that is written
+  makes_buffer : (size : ℕ) (t : Option ℕ) → Effect c e None None (buffer_made e size t)
+  makes_view : (about : ViewInfo) → Effect c e None None (making_view e (Some about)).after
+  detaches : (v : ℕ) → Effect c e None None (with_buffers (with_detached v e.buffers) e)
+  writes : (v at number : ℕ) → Effect c e None None (with_buffers (with_element_written v at number e.buffers) e)
   -- the hooks, a finalizer that is withdrawn, and that exit is asked
   adds_hook : (entry argument : ℕ) → Effect c e (Some (ticket_duty (new_ticket e.book))) None (hooking e (caller_of e.frames) entry argument).after
   removes_hook : (entry argument : ℕ)
@@ -126,6 +139,10 @@ module _ (c : Call) (e : Environment) where
   reading-effect : (v : Option ℕ) → reaction_value e ≡ v → EffectOf c e (reaction_told e v)
   reading-effect None is = rests
   reading-effect (Some v) is = reads v is
+
+  viewing-effect : (about : Option ViewInfo) → EffectOf c e (making_view e about)
+  viewing-effect None = rests
+  viewing-effect (Some about) = makes_view about
 
 -- EACH CALL, ONCE AND FOR ALL
 new-finalizes : (e : Environment) (payload entry hint : ℕ) (book : Book)
@@ -197,6 +214,17 @@ effect-of e (call.ResolveDeferred d v) n = settling-effect _ e d.0 v.0 resolved 
 effect-of e (call.RejectDeferred d v) n = settling-effect _ e d.0 v.0 rejected (deferred_promise e.promises d.0) refl
 effect-of e (call.AddReaction h entry payload) n = reacts (handle_value e.heap h.0) entry payload
 effect-of e call.GetReactionValue n = reading-effect _ e (reaction_value e) refl
+effect-of e (call.CreateArraybuffer size) n = makes_buffer size None
+effect-of e (call.CreateExternalArraybuffer size payload entry hint) n =
+    attaches (registers payload entry hint (makes_buffer size (Some (new_ticket e.book))) (adds _ _ refl refl (λ h. cc) refl))
+    (hangs _ _ (new-finalizes e payload entry hint e.book))
+effect-of e (call.IsArraybuffer h) n = rests
+effect-of e (call.IsDetachedArraybuffer h) n = rests
+effect-of e (call.GetArraybufferInfo h) n = rests
+effect-of e (call.DetachArraybuffer h) n = detaches (handle_value e.heap h.0)
+effect-of e (call.CreateTypedarray kind h offset count) n = viewing-effect _ e (view_asked e.buffers kind (handle_value e.heap h.0) offset count)
+effect-of e (call.GetView h at) n = rests
+effect-of e (call.SetView h at number) n = writes (handle_value e.heap h.0) at number
 effect-of e call.Collect n = collects
 effect-of e call.Exit n = asks_exit refl
 effect-of e c n = tells n

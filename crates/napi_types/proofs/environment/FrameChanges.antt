@@ -36,6 +36,7 @@ pub record HasRegistry (r : Registry) (e : Environment) : Type 0 where
   pub async_hooks : e.async_hooks ≡ r.async_hooks
   pub instances : e.instances ≡ r.instances
   pub promises : e.promises ≡ r.promises
+  pub buffers : e.buffers ≡ r.buffers
 
 pub registry-parts : (r : Registry) (e : Environment) → registry_of e ≡ r → HasRegistry r e
 registry-parts r e same = record {
@@ -45,6 +46,7 @@ registry-parts r e same = record {
   async_hooks = ap (λ (s : Registry). s.async_hooks) same;
   instances = ap (λ (s : Registry). s.instances) same;
   promises = ap (λ (s : Registry). s.promises) same;
+  buffers = ap (λ (s : Registry). s.buffers) same;
 }
 
 -- THE END OF A FRAME

@@ -24,11 +24,13 @@ use Rattle.napi_types.specs.plain.Lists.{has, has_number}
 use Rattle.napi_types.specs.parts.AsyncHooks.{AsyncHook, HookState, Set, is_set, async_hook, number_under, ticket_of_set, set_ticket, with_removed}
 use Rattle.napi_types.specs.parts.Attachments.{Attachments, is_attached_to, left_on}
 use Rattle.napi_types.specs.parts.Book.{Book, Registration, registration_at, is_at, is_registered, is_owed, made_due, made_withdrawn, moved, moved_at, due_where, new_ticket, with_registration, begun_in, may_begin_in, cause_at}
+use Rattle.napi_types.specs.parts.Buffers.{Buffers, with_buffer, with_view, buffers_left, with_detached, with_element_written}
 use Rattle.napi_types.specs.parts.Frames.{caller_of, cause_of, duty_of}
 use Rattle.napi_types.specs.parts.Heap.{handle_value}
 use Rattle.napi_types.specs.parts.Hooks.{Hook, is_hook, hook_ticket, last_hook, without_hook}
 use Rattle.napi_types.specs.parts.InstanceData.{InstanceData, Instances, instance_ticket}
 use Rattle.napi_types.specs.parts.Promises.{Promise, Promises, promise_at, state_now, reactions_of, is_reaction_of, promise_changed, promises_left, with_promise, with_settled, with_reaction, reactions_settled}
+use Rattle.napi_types.specs.environment.BufferCalls.{making_view}
 use Rattle.napi_types.specs.environment.Calls.{effect, answer}
 use Rattle.napi_types.specs.environment.Changes.{opening_change, init_change, call_change, is_fresh_result, with_none_waiting, book_in, in_phase, gone_change}
 use Rattle.napi_types.specs.environment.Collection.{collected, is_freed}
@@ -52,7 +54,7 @@ use Rattle.napi_types.proofs.parts.Moves.{Settles, registration_after, settled-m
 use Rattle.napi_types.proofs.environment.AnswersKeep.{course-parts}
 use Rattle.napi_types.proofs.environment.Effects as does
 use Rattle.napi_types.proofs.environment.AsyncHooked.{distinct-none, async-below, async-book, async-unhooked, async-begun, async-abandoned, async-removed, async-plain, async-added}
-use Rattle.napi_types.proofs.environment.Effects.{Finalizes, HangsOn, Attaches, removing, Effect, effect-of}
+use Rattle.napi_types.proofs.environment.Effects.{Finalizes, HangsOn, Attaches, removing, buffer_made, Effect, effect-of}
 use Rattle.napi_types.proofs.environment.FrameChanges.{HasRegistry, registry-parts, book_left, promises_after, KeepsButFrame, ended-keeps, KeepsAndEnters, enter_change-keeps}
 use Rattle.napi_types.proofs.environment.HookedBooks.{KeepsCauses, BookGoes, every_ticket, all_but_ticket, HooksAgree, goes-nowhere, late-goes, push-goes, push-causes, changed-causes, others-go, finalizers-go, begun-goes, left-goes, ticket-goes, listed-goes, listed-push, listed-within}
 use Rattle.napi_types.proofs.environment.Cases.{answer-by, asked-by}
@@ -140,6 +142,9 @@ hooked-instances e is all h = hooked-by (record e { instances = is }) (listed e 
 
 hooked-promises : (e : Environment) (p : Promises) → All (HasReactions e.book) p.promises → IsHooked e → IsHooked (record e { promises = p })
 hooked-promises e p reactions h = hooked-by (record e { promises = p }) (listed e h) (attached e h) h.instances reactions h.async
+
+hooked-buffers : (e : Environment) (b : Buffers) → IsHooked e → IsHooked (record e { buffers = b })
+hooked-buffers e b h = hooked-by (record e { buffers = b }) (listed e h) (attached e h) h.instances h.reactions h.async
 
 -- PROMISES
 -- a new one has no reactions
@@ -366,9 +371,10 @@ collected-hooked e alive h =
     let fallen : IsHooked due = hooked-book e _ (finalizers-go e.phase (moved made_due) (λ r. refl) (is_attached_to freed e.attachments) e.book finalizers) h in
     let left : Environment = record due { attachments = left_on freed e.attachments } in
     unchanged _ (collected alive e) refl refl
+    (hooked-buffers (record left { promises = promises_left freed e.promises }) (buffers_left freed e.buffers)
     (hooked-promises left (promises_left freed e.promises)
     (All-filter (λ (r : Promise). not (freed r.value)) (HasReactions due.book) e.promises.promises fallen.reactions)
-    (hooked-attachments due (left_on freed e.attachments) (HoldsAttached-left_on (Finalizes due.book) freed e.attachments (attached due fallen)) fallen))
+    (hooked-attachments due (left_on freed e.attachments) (HoldsAttached-left_on (Finalizes due.book) freed e.attachments (attached due fallen)) fallen)))
 
 -- EVERY CALL
 -- most calls change nothing of it. One that adds an asynchronous hook needs a number that is new
@@ -395,6 +401,12 @@ does-hooked c e _ other (does.reacts v entry payload) h =
     (hooked-promises more (with_reaction v t e.promises)
     (reactions-changed more.book (λ q. record q { reactions = q.reactions ++ t ∷ [] })
     (λ q has. All-push (λ m. cause_at more.book m ≡ Some cause.Reaction) q.reactions t has new) v e.promises.promises k.reactions) k)
+does-hooked c e _ other (does.makes_buffer size t) h =
+    unchanged (record e { buffers = _ }) (buffer_made e size t) refl refl (hooked-buffers e (with_buffer (e.heap.made + 1) size t e.buffers) h)
+does-hooked c e _ other (does.makes_view about) h =
+    unchanged (record e { buffers = _ }) (making_view e (Some about)).after refl refl (hooked-buffers e (with_view (e.heap.made + 1) about e.buffers) h)
+does-hooked c e _ other (does.detaches v) h = hooked-buffers e (with_detached v e.buffers) h
+does-hooked c e _ other (does.writes v at number) h = hooked-buffers e (with_element_written v at number e.buffers) h
 does-hooked c e _ other (does.adds_hook entry argument) h = hooking-hooked e (caller_of e.frames) entry argument h
 does-hooked c e _ other (does.removes_hook entry argument) h = removing-hooked e entry argument h
 does-hooked c e _ other (does.adds_async entry argument n is) h = absurd (other entry argument is)

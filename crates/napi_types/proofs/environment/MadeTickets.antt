@@ -42,6 +42,7 @@ makes-ticket e (call.SetInstanceData payload None hint) n makes local = cc
 makes-ticket e (call.AddEnvCleanupHook entry argument) n makes local = refl
 makes-ticket e (call.AddAsyncCleanupHook entry argument) n makes local = refl
 makes-ticket e (call.AddReaction h entry payload) n makes local = refl
+makes-ticket e (call.CreateExternalArraybuffer size payload entry hint) n makes local = refl
 makes-ticket e (call.CreateThreadsafeFunction f entry maximum count finalizer context) n makes local = cc
 makes-ticket e _ n makes local = cc
 

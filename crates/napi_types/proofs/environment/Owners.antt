@@ -19,7 +19,7 @@ use Rattle.napi_types.specs.declared.entry.Cause.TheVariants as cause
 use Rattle.napi_types.specs.plain.Lists.{tail, has_number}
 use Rattle.napi_types.specs.plain.Replies.{accepts}
 use Rattle.napi_types.specs.parts.AsyncHooks.{set_ticket, with_removed}
-use Rattle.napi_types.specs.parts.Bodies.{promise_tag, is_function, function_addon, text_of}
+use Rattle.napi_types.specs.parts.Bodies.{promise_tag, buffer_tag, view_tag, is_function, function_addon, text_of}
 use Rattle.napi_types.specs.parts.Book.{Registration, registration_at, due_info}
 use Rattle.napi_types.specs.parts.Frames.{Frame, frame_of, frame_of_duty, caller_of, ask_counted, asks_made, most_asks}
 use Rattle.napi_types.specs.parts.FunctionCalls.{callee_of}
@@ -156,6 +156,10 @@ does-owned n c e _ there all (does.makes payload) = one-more n _ _ e.heap.values
 does-owned n c e _ there all (does.raises code message) = thrown-owned n e.heap code message all
 does-owned n c e _ there all (does.promises k) =
     All-push (IsOurValue n) e.heap.values (linked_value (e.heap.made + 1) promise_tag None) all (no-function n (body.Linked promise_tag None) refl)
+does-owned n c e _ there all (does.makes_buffer size t) =
+    All-push (IsOurValue n) e.heap.values (linked_value (e.heap.made + 1) buffer_tag None) all (no-function n (body.Linked buffer_tag None) refl)
+does-owned n c e _ there all (does.makes_view about) =
+    All-push (IsOurValue n) e.heap.values (linked_value (e.heap.made + 1) view_tag (Some about.buffer.0)) all (no-function n (body.Linked view_tag None) refl)
 does-owned n c e _ there all (does.settles k h state p is) = changed-owned n p _ e.heap.values (λ x. refl) all
 does-owned n c e _ there all does.collects = kept-owned n (reach e) e.heap.values all
 does-owned n c e _ there all (does.removes_hook entry argument) =

@@ -27,6 +27,7 @@ use Rattle.napi_types.specs.parts.HeapChanges.{with_thrown}
 use Rattle.napi_types.specs.parts.Hooks.{hook_ticket}
 use Rattle.napi_types.specs.parts.Promises.{Promise, Deferred, Promises, promise_changed, without_reaction}
 use Rattle.napi_types.specs.parts.Values.{Value, linked_value, value_changed, with_link, those_of}
+use Rattle.napi_types.specs.environment.BufferCalls.{making_view}
 use Rattle.napi_types.specs.environment.Calls.{effect, answer}
 use Rattle.napi_types.specs.environment.Changes.{call_change}
 use Rattle.napi_types.specs.environment.Collection.{is_freed}
@@ -42,7 +43,7 @@ use Rattle.napi_types.specs.environment.Roots.{reach}
 use Rattle.napi_types.proofs.plain.Maps.{All-with_record}
 use Rattle.napi_types.proofs.environment.Cases.{answer-by, asked-by}
 use Rattle.napi_types.proofs.environment.Effects as does
-use Rattle.napi_types.proofs.environment.Effects.{Effect, registered-by, effect-of}
+use Rattle.napi_types.proofs.environment.Effects.{buffer_made, Effect, registered-by, effect-of}
 use Rattle.napi_types.proofs.environment.FrameChanges.{promises_after, KeepsButFrame, ended-keeps, left-parts, KeepsAndEnters, enter_change-keeps, registry-parts}
 
 -- what holds of the first of two holds still, and what holds of the second
@@ -187,6 +188,11 @@ does-promised c e _ (does.promises n) h =
       promises = All-with_record (λ (r : Promise). r.value) (record { value = v; state = 0; reactions = [] }) (IsLinkedPromise new) e.promises.promises
           (new-linked v promise_tag e.heap.values) (promises-weaker e new (keeps-more e.heap.values _) h);
     }
+does-promised c e _ (does.makes_buffer size t) h =
+    let k : IsPromised (with_heap e _) = in-values e (buffer_made e size t).heap (keeps-more e.heap.values _) h in record { linked = k.linked; promises = k.promises }
+does-promised c e _ (does.makes_view about) h =
+    let k : IsPromised (with_heap e _) = in-values e (making_view e (Some about)).after.heap (keeps-more e.heap.values _) h in
+    record { linked = k.linked; promises = k.promises }
 does-promised c e _ (does.settles n v state p is) h = record {
   linked = All-filter (λ (d : Deferred). not (d.number == n)) (IsDeferredOfLinked (value_changed p _ e.heap.values)) e.promises.deferreds
       (All-weaker (IsDeferredOfLinked e.heap.values) (IsDeferredOfLinked (value_changed p _ e.heap.values))

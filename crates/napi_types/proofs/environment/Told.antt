@@ -7,6 +7,7 @@ use Rattle.napi_types.specs.declared.entry.Out.{Out}
 use Rattle.napi_types.specs.declared.entry.Out.TheVariants as out
 use Rattle.napi_types.specs.declared.entry.Reply.{Reply}
 use Rattle.napi_types.specs.declared.status.Status.TheVariants as status
+use Rattle.napi_types.specs.declared.view.ViewInfo.{ViewInfo}
 use Rattle.napi_types.specs.plain.Guards.{is_registering}
 use Rattle.napi_types.specs.plain.Replies.{Answer, plain}
 use Rattle.napi_types.specs.plain.Room.{need}
@@ -19,6 +20,7 @@ use Rattle.napi_types.specs.parts.Hooks.{hook_ticket}
 use Rattle.napi_types.specs.parts.InstanceData.{instance_ticket}
 use Rattle.napi_types.specs.parts.Promises.{deferred_promise}
 use Rattle.napi_types.specs.parts.References.{referred_value}
+use Rattle.napi_types.specs.environment.BufferCalls.{view_asked, making_view}
 use Rattle.napi_types.specs.environment.Calls.{effect, answer}
 use Rattle.napi_types.specs.environment.Environment.{Environment}
 use Rattle.napi_types.specs.environment.PromiseCalls.{settling, resolved, rejected, reaction_value, reaction_told}
@@ -86,6 +88,10 @@ module _ (c : Call) where
   reaction-told e None = told_plain _ refl refl refl
   reaction-told e (Some v) = told_plain _ refl refl refl
 
+  viewing-told : (e : Environment) (about : Option ViewInfo) → MayReply c (making_view e about).reply
+  viewing-told e None = told_plain _ refl refl refl
+  viewing-told e (Some about) = told_plain _ refl refl refl
+
 pub effect-told : (e : Environment) (c : Call) (n : ℕ) → MayReply c (effect e c n).reply
 effect-told e (call.ReferenceRef r) n = counted-told _ r.0 e (referred_value e.references r.0)
 effect-told e (call.GetReferenceValue r) n = value-told _ e (referred_value e.references r.0)
@@ -113,6 +119,8 @@ effect-told e (call.ResolveDeferred d v) n = settling-told _ e d.0 (handle_value
 effect-told e (call.RejectDeferred d v) n = settling-told _ e d.0 (handle_value e.heap v.0) rejected (deferred_promise e.promises d.0)
 effect-told e (call.AddReaction h entry payload) n = registering-told _ _ _ refl (omega arith) refl
 effect-told e call.GetReactionValue n = reaction-told _ e (reaction_value e)
+effect-told e (call.CreateExternalArraybuffer size payload entry hint) n = registering-told _ _ _ refl (omega arith) refl
+effect-told e (call.CreateTypedarray kind h offset count) n = viewing-told _ e (view_asked e.buffers kind (handle_value e.heap h.0) offset count)
 effect-told e c n = told_plain _ refl refl refl
 
 pub answer-told : (e : Environment) (c : Call) (n : ℕ) → MayReply c (answer e c n).reply

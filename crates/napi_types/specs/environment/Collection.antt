@@ -7,6 +7,7 @@ use Rattle.napi_types.specs.plain.Lists.{has_number}
 use Rattle.napi_types.specs.plain.Replies.{Answer, accepts}
 use Rattle.napi_types.specs.parts.Attachments.{left_on, is_attached_to}
 use Rattle.napi_types.specs.parts.Book.{due_where}
+use Rattle.napi_types.specs.parts.Buffers.{buffers_left}
 use Rattle.napi_types.specs.parts.Promises.{promises_left}
 use Rattle.napi_types.specs.parts.References.{emptied}
 use Rattle.napi_types.specs.parts.Values.{those_of, all_but}
@@ -19,13 +20,14 @@ abbrev pub is_freed : List ℕ → ℕ → Bool
 is_freed alive v = not (has_number v alive)
 
 -- the values of these numbers stay; all others are freed, the references to them name none, what is attached to them goes with them, the tickets of their
--- finalizers fall due, and those that were promises are none any more
+-- finalizers fall due, and those that were promises, buffers or views are none any more
 abbrev pub collected : List ℕ → Environment → Environment
 collected alive e = record e {
   heap = record (e.heap) { values = those_of alive e.heap.values };
   references = emptied (is_freed alive) e.references;
   attachments = left_on (is_freed alive) e.attachments;
   promises = promises_left (is_freed alive) e.promises;
+  buffers = buffers_left (is_freed alive) e.buffers;
   book = due_where (is_attached_to (is_freed alive) e.attachments) e.book;
 }
 

@@ -8,6 +8,7 @@ use Rattle.napi_types.specs.plain.Replies.{Answer}
 use Rattle.napi_types.specs.parts.AsyncHooks.{AsyncHook}
 use Rattle.napi_types.specs.parts.Attachments.{Attachments, no_attachments}
 use Rattle.napi_types.specs.parts.Book.{Book}
+use Rattle.napi_types.specs.parts.Buffers.{Buffers, no_buffers}
 use Rattle.napi_types.specs.parts.Frames.{Frame}
 use Rattle.napi_types.specs.parts.Heap.{Heap, new_heap}
 use Rattle.napi_types.specs.parts.Hooks.{Hook}
@@ -48,6 +49,8 @@ pub record Environment : Type 0 where
   pub instances : Instances
   -- the promises, their deferreds and their reactions
   pub promises : Promises
+  -- the array buffers, and the views of them
+  pub buffers : Buffers
   -- the values that thread-safe functions keep alive until they finish
   pub tsfn_roots : List TsfnRoot
   -- the creation number of the value that is the pending exception, where one is pending
@@ -81,6 +84,7 @@ new_environment given = record {
   async_hooks = [];
   instances = replicate given.addons None;
   promises = no_promises;
+  buffers = no_buffers;
   tsfn_roots = [];
   pending = None;
   last = status.Ok;

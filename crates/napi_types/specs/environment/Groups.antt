@@ -2,11 +2,12 @@
 use Rattle.std.specs.Prelude.{option_map}
 use Rattle.napi_types.specs.declared.call.Call.{Call}
 use Rattle.napi_types.specs.declared.call.CallGroup.{CallGroup}
-use Rattle.napi_types.specs.declared.call.CallGroup.TheVariants.{OnFunctions, OnReferences, OnWraps, OnExternals, OnExceptions, OnInstances, OnHooks, OnPromises, OnCollection, OnExit}
+use Rattle.napi_types.specs.declared.call.CallGroup.TheVariants.{OnFunctions, OnReferences, OnWraps, OnExternals, OnExceptions, OnInstances, OnHooks, OnPromises, OnBuffers, OnCollection, OnExit}
 use Rattle.napi_types.specs.plain.CallFacts.{group_of}
 use Rattle.napi_types.specs.parts.Frames.{caller_of}
 use Rattle.napi_types.specs.parts.FunctionCalls.{on_functions}
 use Rattle.napi_types.specs.parts.HeapGroups.{heap_group}
+use Rattle.napi_types.specs.environment.BufferCalls.{buffer_calls}
 use Rattle.napi_types.specs.environment.Collection.{collecting_calls}
 use Rattle.napi_types.specs.environment.Environment.{in_heap}
 use Rattle.napi_types.specs.environment.ExceptionCalls.{exception_calls}
@@ -30,6 +31,7 @@ call_group OnExceptions = exception_calls
 call_group OnInstances = instance_calls
 call_group OnHooks = hook_calls
 call_group OnPromises = promise_calls
+call_group OnBuffers = buffer_calls
 call_group OnCollection = collecting_calls
 call_group OnExit = run_calls
 call_group g = from_heap (heap_group g)

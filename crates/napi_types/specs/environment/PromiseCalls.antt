@@ -26,7 +26,7 @@ with_promises heap p e = record e { heap = heap; promises = p }
 
 -- a heap with a new promise, and a handle of it
 abbrev pub with_new_promise : Heap → Heap
-with_new_promise heap = with_handle (heap.made + 1) (with_linked promise_tag heap)
+with_new_promise heap = with_handle (heap.made + 1) (with_linked promise_tag None heap)
 
 -- `create_promise` makes a promise, which is pending, and its deferred, of the number n
 abbrev pub promising : Environment → ℕ → Answer Environment

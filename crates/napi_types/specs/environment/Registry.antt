@@ -3,6 +3,7 @@ use Rattle.std.specs.Prelude.{List}
 use Rattle.napi_types.specs.parts.AsyncHooks.{AsyncHook}
 use Rattle.napi_types.specs.parts.Attachments.{Attachments}
 use Rattle.napi_types.specs.parts.Book.{Book}
+use Rattle.napi_types.specs.parts.Buffers.{Buffers}
 use Rattle.napi_types.specs.parts.Hooks.{Hook}
 use Rattle.napi_types.specs.parts.InstanceData.{Instances}
 use Rattle.napi_types.specs.parts.Promises.{Promises}
@@ -19,6 +20,8 @@ pub record Registry : Type 0 where
   pub instances : Instances
   -- the promises, their deferreds and their reactions
   pub promises : Promises
+  -- the array buffers, and the views of them
+  pub buffers : Buffers
 
 -- those of an environment
 abbrev pub registry_of : Environment → Registry
@@ -29,6 +32,7 @@ registry_of e = record {
   async_hooks = e.async_hooks;
   instances = e.instances;
   promises = e.promises;
+  buffers = e.buffers;
 }
 
 -- an environment with others
@@ -40,4 +44,5 @@ with_registry e r = record e {
   async_hooks = r.async_hooks;
   instances = r.instances;
   promises = r.promises;
+  buffers = r.buffers;
 }

@@ -69,6 +69,13 @@ abbrev pub is_promise_body : Body → Bool
 is_promise_body (body.Linked tag to) = tag == promise_tag
 is_promise_body _ = false
 
+-- a buffer is a linked value with the tag 3 and no child, and a view one with the tag 2, whose child is its buffer
+abbrev pub buffer_tag : ℕ
+buffer_tag = 3
+
+abbrev pub view_tag : ℕ
+view_tag = 2
+
 -- the child that a body names, by its number: that of a value that is to be made. The body of a value that is there names none, its child stands beside the body
 abbrev pub child_of : Body → Option ℕ
 child_of (body.Linked tag to) = option_map (λ v. v.0) to

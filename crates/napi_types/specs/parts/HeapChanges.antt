@@ -1,5 +1,5 @@
 -- What calls make of a heap.
-use Rattle.std.specs.Prelude.{ℕ, ◌+◌, List, [], ◌∷◌, ◌++◌, length, Option, None}
+use Rattle.std.specs.Prelude.{ℕ, ◌+◌, List, [], ◌∷◌, ◌++◌, length, Option}
 use Rattle.napi_types.specs.declared.body.Body.{Body}
 use Rattle.napi_types.specs.declared.ids.TextNo.{TextNo}
 use Rattle.napi_types.specs.declared.entry.Out.TheVariants as out
@@ -23,13 +23,17 @@ handle_of v heap = accepts (out.Handle (record { 0 = heap.handles + 1 })) (with_
 abbrev pub with_value : Body → Heap → Heap
 with_value b heap = record heap { values = heap.values ++ fresh_value (heap.made + 1) b ∷ []; made = heap.made + 1 }
 
--- a linked value with the next creation number, of this tag and with no child
-abbrev pub with_linked : ℕ → Heap → Heap
-with_linked tag heap = record heap { values = heap.values ++ linked_value (heap.made + 1) tag None ∷ []; made = heap.made + 1 }
+-- a linked value with the next creation number, of this tag and with this child, where there is one
+abbrev pub with_linked : ℕ → Option ℕ → Heap → Heap
+with_linked tag to heap = record heap { values = heap.values ++ linked_value (heap.made + 1) tag to ∷ []; made = heap.made + 1 }
 
 -- a new value and its handle
 abbrev pub new_value : Body → Heap → Answer Heap
 new_value b heap = handle_of (heap.made + 1) (with_value b heap)
+
+-- a new linked value and its handle
+abbrev pub new_linked : ℕ → Option ℕ → Heap → Answer Heap
+new_linked tag to heap = handle_of (heap.made + 1) (with_linked tag to heap)
 
 -- an error with the next creation number, of the values that are its code, where one is given, and its message
 abbrev pub with_error : Option ℕ → ℕ → Heap → Heap

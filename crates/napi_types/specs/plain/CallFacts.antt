@@ -4,7 +4,7 @@ use Rattle.std.specs.Prelude.{◌≡◌, ℕ, ◌+◌, Bool, true, false, List, 
 use Rattle.napi_types.specs.declared.call.Call.{Call}
 use Rattle.napi_types.specs.declared.call.Call.TheVariants as call
 use Rattle.napi_types.specs.declared.call.CallGroup.{CallGroup}
-use Rattle.napi_types.specs.declared.call.CallGroup.TheVariants.{OnValues, OnProperties, OnFunctions, OnScopes, OnReferences, OnWraps, OnExternals, OnEntering, OnExceptions, OnInstances, OnHooks, OnPromises, OnWorks, OnTsfns, OnVersion, OnCollection, OnExit}
+use Rattle.napi_types.specs.declared.call.CallGroup.TheVariants.{OnValues, OnProperties, OnFunctions, OnScopes, OnReferences, OnWraps, OnExternals, OnEntering, OnExceptions, OnInstances, OnHooks, OnPromises, OnBuffers, OnWorks, OnTsfns, OnVersion, OnCollection, OnExit}
 use Rattle.napi_types.specs.declared.call.Facts.{Facts}
 use Rattle.napi_types.specs.declared.ids.HandleId.{HandleId}
 use Rattle.napi_types.specs.declared.ids.TextNo.{TextNo}
@@ -120,6 +120,15 @@ facts_of (call.AddReaction h _ _) =
     record (in_group OnPromises) { guarded = true; registers = true; grows = true; need = 1 + duty_places; handles = singleton h.0 }
 facts_of call.GetReactionValue = record (in_group OnPromises) { grows = true }
 facts_of (call.IsPromise h) = record (in_group OnValues) { handles = singleton h.0 }
+facts_of (call.CreateArraybuffer _) = record (in_group OnBuffers) { grows = true }
+facts_of (call.CreateExternalArraybuffer _ _ _ _) = record (in_group OnBuffers) { registers = true; grows = true; need = 1 + duty_places }
+facts_of (call.IsArraybuffer h) = record (in_group OnBuffers) { handles = singleton h.0 }
+facts_of (call.IsDetachedArraybuffer h) = record (in_group OnBuffers) { handles = singleton h.0 }
+facts_of (call.GetArraybufferInfo h) = record (in_group OnBuffers) { handles = singleton h.0 }
+facts_of (call.DetachArraybuffer h) = record (in_group OnBuffers) { handles = singleton h.0 }
+facts_of (call.CreateTypedarray _ h _ _) = record (in_group OnBuffers) { guarded = true; grows = true; handles = singleton h.0 }
+facts_of (call.GetView h _) = record (in_group OnBuffers) { handles = singleton h.0 }
+facts_of (call.SetView h _ _) = record (in_group OnBuffers) { handles = singleton h.0 }
 facts_of (call.CreateAsyncWork _ _ _) = record (in_group OnWorks) { registers = true; grows = true }
 facts_of (call.DeleteAsyncWork _) = in_group OnWorks
 facts_of (call.CancelAsyncWork _) = in_group OnWorks

@@ -1,5 +1,5 @@
 -- Replies, and what a call answers and leaves.
-use Rattle.std.specs.Prelude.{None}
+use Rattle.std.specs.Prelude.{List, [], None}
 use Rattle.napi_types.specs.declared.status.Status.{Status}
 use Rattle.napi_types.specs.declared.status.Status.TheVariants as status
 use Rattle.napi_types.specs.declared.entry.Out.{Out}
@@ -22,3 +22,8 @@ accepts o after = record { reply = plain status.Ok o; after = after }
 -- a call that is refused leaves everything as it was
 abbrev pub refuses : {S : Type 0} → Status → S → Answer S
 refuses s before = record { reply = plain s out.Nothing; after = before }
+
+-- what is told of a call that was accepted; one that was refused tells nothing
+abbrev pub if_accepted : {A : Type 0} → Status → List A → List A
+if_accepted status.Ok told = told
+if_accepted s told = []

@@ -36,7 +36,9 @@ operations = op.Exit ∷ op.GetUndefined 0 ∷ op.GetNull 0 ∷ op.GetGlobal 0 �
     ∷ op.OpenEscapableHandleScope 0 ∷ op.IsExceptionPending 0 ∷ op.GetAndClearLastException 0 ∷ op.GetLastErrorInfo 0 ∷ op.GetInstanceData 0
     ∷ op.GetVersion 0 ∷ op.Collect 0 ∷ op.CloseHandleScope 0 ∷ op.CloseEscapableHandleScope 0 ∷ op.DeleteReference 0 ∷ op.Throw 0
     ∷ op.RemoveAsyncCleanupHook 0 ∷ op.CreatePromise 0 0 ∷ op.ResolveDeferred 0 0 ∷ op.RejectDeferred 0 0 ∷ op.IsPromise 0 0
-    ∷ op.AddReaction 0 0 0 ∷ op.GetReactionValue 0 ∷ op.DeleteAsyncWork 0
+    ∷ op.AddReaction 0 0 0 ∷ op.GetReactionValue 0 ∷ op.CreateArraybuffer 0 0 ∷ op.CreateExternalArraybuffer 0 0 0 0 0 ∷ op.IsArraybuffer 0 0
+    ∷ op.IsDetachedArraybuffer 0 0 ∷ op.GetArraybufferInfo 0 0 ∷ op.DetachArraybuffer 0 ∷ op.CreateTypedarray 0 0 0 0 0 ∷ op.GetView 0 0 0
+    ∷ op.SetView 0 0 0 ∷ op.DeleteAsyncWork 0
     ∷ op.CancelAsyncWork 0 ∷ op.QueueAsyncWork 0 ∷ op.AcquireThreadsafeFunction 0 ∷ op.RefThreadsafeFunction 0 ∷ op.UnrefThreadsafeFunction 0
     ∷ op.Return None ∷ op.Typeof 0 0 ∷ op.IsArray 0 0 ∷ op.IsError 0 0 ∷ op.GetValueInt64 0 0 ∷ op.GetValueBigintInt64 0 0 ∷ op.GetValueBool 0 0
     ∷ op.GetValueStringUtf8 0 0 ∷ op.GetValueExternal 0 0 ∷ op.GetArrayLength 0 0 ∷ op.GetPropertyNames 0 0 ∷ op.ReferenceRef 0 0 ∷ op.ReferenceUnref 0 0
@@ -93,6 +95,7 @@ with_register (op.DeleteReference _) x = Some (op.DeleteReference x)
 with_register (op.Throw _) x = Some (op.Throw x)
 with_register (op.RemoveAsyncCleanupHook _) x = Some (op.RemoveAsyncCleanupHook x)
 with_register (op.GetReactionValue _) x = Some (op.GetReactionValue x)
+with_register (op.DetachArraybuffer _) x = Some (op.DetachArraybuffer x)
 with_register (op.DeleteAsyncWork _) x = Some (op.DeleteAsyncWork x)
 with_register (op.CancelAsyncWork _) x = Some (op.CancelAsyncWork x)
 with_register (op.QueueAsyncWork _) x = Some (op.QueueAsyncWork x)
@@ -115,6 +118,9 @@ with_two_registers (op.CreatePromise _ _) x y = Some (op.CreatePromise x y)
 with_two_registers (op.ResolveDeferred _ _) x y = Some (op.ResolveDeferred x y)
 with_two_registers (op.RejectDeferred _ _) x y = Some (op.RejectDeferred x y)
 with_two_registers (op.IsPromise _ _) x y = Some (op.IsPromise x y)
+with_two_registers (op.IsArraybuffer _ _) x y = Some (op.IsArraybuffer x y)
+with_two_registers (op.IsDetachedArraybuffer _ _) x y = Some (op.IsDetachedArraybuffer x y)
+with_two_registers (op.GetArraybufferInfo _ _) x y = Some (op.GetArraybufferInfo x y)
 with_two_registers (op.GetValueInt64 _ _) x y = Some (op.GetValueInt64 x y)
 with_two_registers (op.GetValueBigintInt64 _ _) x y = Some (op.GetValueBigintInt64 x y)
 with_two_registers (op.GetValueBool _ _) x y = Some (op.GetValueBool x y)
@@ -138,6 +144,7 @@ with_two_arguments entries (op.CreateBigintInt64 _ _) a b = from_two op.CreateBi
 with_two_arguments entries (op.CreateSymbol _ _) a b = from_two op.CreateSymbol (register_or_none a) (register b)
 with_two_arguments entries (op.AddEnvCleanupHook _ _) a b = from_two op.AddEnvCleanupHook (entry_number entries a) (whole b)
 with_two_arguments entries (op.RemoveEnvCleanupHook _ _) a b = from_two op.RemoveEnvCleanupHook (entry_number entries a) (whole b)
+with_two_arguments entries (op.CreateArraybuffer _ _) a b = from_two op.CreateArraybuffer (whole a) (register b)
 with_two_arguments entries (op.ReleaseThreadsafeFunction _ _) a b = from_two op.ReleaseThreadsafeFunction (register a) (release_number b)
 with_two_arguments entries kind a b = do
   x ← register a
@@ -158,6 +165,8 @@ with_three_arguments entries (op.TypeTagObject _ _ _) a b c = from_three op.Type
 with_three_arguments entries (op.SetInstanceData _ _ _) a b c = from_three op.SetInstanceData (whole a) (entry_or_none entries b) (whole c)
 with_three_arguments entries (op.AddAsyncCleanupHook _ _ _) a b c = from_three op.AddAsyncCleanupHook (entry_number entries a) (whole b) (register c)
 with_three_arguments entries (op.AddReaction _ _ _) a b c = from_three op.AddReaction (register a) (entry_number entries b) (whole c)
+with_three_arguments entries (op.GetView _ _ _) a b c = from_three op.GetView (register a) (whole b) (register c)
+with_three_arguments entries (op.SetView _ _ _) a b c = from_three op.SetView (register a) (whole b) (whole c)
 with_three_arguments entries (op.CallThreadsafeFunction _ _ _) a b c = from_three op.CallThreadsafeFunction (register a) (whole b) (mode_number c)
 with_three_arguments entries _ a b c = None
 
@@ -174,6 +183,10 @@ unfoldable pub with_five_arguments : ℕ → Op → Data → Data → Data → D
 with_five_arguments entries (op.Wrap _ _ _ _ _) a b c d e = from_five op.Wrap (register a) (whole b) (entry_or_none entries c) (whole d) (register_or_none e)
 with_five_arguments entries (op.AddFinalizer _ _ _ _ _) a b c d e =
     from_five op.AddFinalizer (register a) (whole b) (entry_number entries c) (whole d) (register_or_none e)
+with_five_arguments entries (op.CreateExternalArraybuffer _ _ _ _ _) a b c d e =
+    from_five op.CreateExternalArraybuffer (whole a) (whole b) (entry_number entries c) (whole d) (register e)
+with_five_arguments entries (op.CreateTypedarray _ _ _ _ _) a b c d e =
+    from_five op.CreateTypedarray (whole a) (register b) (whole c) (whole d) (register e)
 with_five_arguments entries _ a b c d e = None
 
 -- seven arguments
