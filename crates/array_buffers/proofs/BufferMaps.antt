@@ -1,42 +1,19 @@
--- What the tables of buffers and of views stand for, and what a change of them makes of it.
+-- What the two tables stand for, and what a change of them makes of it.
 use Rattle.std.proofs.Common.{◌≡◌, ◌∙◌, ℕ, ◌==◌, nat_eq, Bool, true, false, not, cond, List, [], ◌∷◌, map, replicate, Option, Some, None, option_map, refl, ap, sym, subst, arith}
 use Rattle.std.specs.Map.{lookup}
 use Rattle.std.proofs.lemmas.Bool.Decides.{nat_tests}
 use Rattle.napi_types.specs.plain.Lists.{found, as_map}
-use Rattle.napi_types.proofs.plain.Found.{IsRising, same-self, found-number, found-with_record, found-filter, found-map, found-as_map, found-same, rising-with_record, rising-filter, rising-changed, rising-as_map}
+use Rattle.napi_types.proofs.plain.Found.{IsRising, same-from, equal-tests, same-self, found-number, found-with_record, found-filter, found-map, found-as_map, found-same, rising-with_record, rising-filter, rising-changed, rising-as_map}
+use Rattle.napi_types.proofs.plain.FoundInMaps.{found-in-map}
 use Rattle.array_buffers.specs.declared.row.BufferRow.{BufferRow}
-use Rattle.array_buffers.specs.declared.row.ViewInfo.{ViewInfo}
-use Rattle.array_buffers.specs.Buffers.{ArrayBuffer, BufferView, Buffers, no_buffers, buffer_at, view_at, with_buffer, with_view, buffer_changed_at, without_buffer}
+use Rattle.napi_types.specs.declared.view.ViewInfo.{ViewInfo}
+use Rattle.napi_types.specs.parts.Buffers.{ArrayBuffer, BufferView, Buffers, no_buffers, buffer_at, view_at, with_buffer, with_view, buffer_changed_at, without_buffer}
 use Rattle.array_buffers.specs.BufferTables.{row_bytes, buffer_row, view_row, buffer_row_at, row_changed, buffers_of}
-
-same-from : (m n : ℕ) → nat_eq m n ≡ true → m ≡ n
-same-from m n is = grind (arith, nat_tests)
-
-equal-tests : (m n : ℕ) → (m == n) ≡ nat_eq n m
-equal-tests m n = grind (arith, nat_tests)
 
 same-tests : (m n : ℕ) → (m == n) ≡ nat_eq m n
 same-tests m n = grind (arith, nat_tests)
 
--- WHAT IS FOUND
-module _ {X R : Type 0} (number : R → ℕ) (made : ℕ → X → R) (by : (n : ℕ) (x : X) → number (made n x) ≡ n) where
-  found-made : (n : ℕ) (es : List (ℕ × X)) → found number n (map (λ e. made e.0 e.1) es) ≡ option_map (made n) (lookup (nat_eq n) es)
-  found-made n [] = refl
-  found-made n (e ∷ es) = case (nat_eq n e.0) refl (found-made n es)
-    where
-      here : (b : Bool) → nat_eq n e.0 ≡ b → (number (made e.0 e.1) == n) ≡ b
-      here b is = ap (λ k. k == n) (by e.0 e.1) ∙ equal-tests e.0 n ∙ is
-
-      case : (b : Bool) → nat_eq n e.0 ≡ b → found number n (map (λ d. made d.0 d.1) es) ≡ option_map (made n) (lookup (nat_eq n) es)
-          → cond (number (made e.0 e.1) == n) (Some (made e.0 e.1)) (found number n (map (λ d. made d.0 d.1) es)) ≡ option_map (made n) (cond b (Some e.1) (lookup (nat_eq n) es))
-      case true is rest =
-          ap (λ c. cond c (Some (made e.0 e.1)) (found number n (map (λ d. made d.0 d.1) es))) (here true is) ∙ ap (λ k. Some (made k e.1)) (sym (same-from n e.0 is))
-      case false is rest = ap (λ c. cond c (Some (made e.0 e.1)) (found number n (map (λ d. made d.0 d.1) es))) (here false is) ∙ rest
-
-  found-in-table : (n : ℕ) (es : List (ℕ × X)) → found number n (as_map number (map (λ e. made e.0 e.1) es)) ≡ option_map (made n) (lookup (nat_eq n) es)
-  found-in-table n es = found-as_map number n (map (λ e. made e.0 e.1) es) ∙ found-made n es
-
--- what these tables stand for
+-- WHAT THE TABLES STAND FOR
 pub record Stands (rows : List (ℕ × BufferRow)) (places : List (ℕ × ViewInfo)) (b : Buffers) : Type 0 where
   pub buffers : IsRising (λ r. r.value) b.buffers
   pub views : IsRising (λ w. w.value) b.views
@@ -48,14 +25,14 @@ unfolding buffers_of
 stands-these rows views = record {
   buffers = rising-as_map (λ r. r.value) (map (λ e. buffer_row e.0 e.1) rows);
   views = rising-as_map (λ w. w.value) (map (λ e. view_row e.0 e.1) views);
-  each = λ v. found-in-table (λ r. r.value) buffer_row (λ n x. refl) v rows;
-  those = λ v. found-in-table (λ w. w.value) view_row (λ n x. refl) v views;
+  each = λ v. found-in-map (λ r. r.value) buffer_row (λ n x. refl) v rows;
+  those = λ v. found-in-map (λ w. w.value) view_row (λ n x. refl) v views;
 }
 
 pub stands-for : (rows : List (ℕ × BufferRow)) (views : List (ℕ × ViewInfo)) (b : Buffers) → buffers_of rows views ≡ b → Stands rows views b
 stands-for rows views b is = subst (Stands rows views) is (stands-these rows views)
 
-same-buffers : (rs ss : List ArrayBuffer) (vs ws : List BufferView) → rs ≡ ss → vs ≡ ws → let b : Buffers = record { buffers = rs; views = vs } in b ≡ record { buffers = ss; views = ws }
+pub same-buffers : (rs ss : List ArrayBuffer) (vs ws : List BufferView) → rs ≡ ss → vs ≡ ws → let b : Buffers = record { buffers = rs; views = vs } in b ≡ record { buffers = ss; views = ws }
 same-buffers rs ss vs ws e f = cc
 
 pub is-these : (rows : List (ℕ × BufferRow)) (views : List (ℕ × ViewInfo)) (b : Buffers) → Stands rows views b → buffers_of rows views ≡ b
@@ -81,8 +58,13 @@ view-in-table rows views b s v = ap (option_map (λ w. w.about)) (s.those v) ∙
 -- CHANGES
 module _ (rows rows' : List (ℕ × BufferRow)) (views views' : List (ℕ × ViewInfo)) (b : Buffers) (s : Stands rows views b) (v : ℕ) where
   -- nothing
-  pub stands-same : ((w : ℕ) → buffer_row_at w rows' ≡ buffer_row_at w rows) → Stands rows' views b
-  stands-same same = record { buffers = s.buffers; views = s.views; each = λ w. s.each w ∙ sym (same w); those = s.those }
+  pub stands-same : ((w : ℕ) → buffer_row_at w rows' ≡ buffer_row_at w rows) → ((w : ℕ) → lookup (nat_eq w) views' ≡ lookup (nat_eq w) views) → Stands rows' views' b
+  stands-same same others = record {
+    buffers = s.buffers;
+    views = s.views;
+    each = λ w. s.each w ∙ sym (same w);
+    those = λ w. s.those w ∙ ap (option_map (view_row w)) (sym (others w));
+  }
 
   -- a buffer comes
   pub stands-made : (size : ℕ) (ticket : Option ℕ) (row : BufferRow) → row_bytes row ≡ Some (replicate size 0) → option_map (λ t. t.0) row.ticket ≡ ticket

@@ -1,6 +1,6 @@
-pub mod BufferLimits
 pub mod BufferMaps
 pub mod BufferSums
-pub mod BufferTickets
-pub mod ElementBytes
-pub mod KeptBuffers
+pub mod Bytes
+pub mod Kept
+pub mod Limits
+pub mod Tickets

@@ -4,8 +4,8 @@ use Rattle.std.specs.Map.{lookup}
 use Rattle.std.specs.Option.{option_and_then, option_map_or}
 use Rattle.napi_types.specs.plain.Lists.{as_map}
 use Rattle.array_buffers.specs.declared.row.BufferRow.{BufferRow}
-use Rattle.array_buffers.specs.declared.row.ViewInfo.{ViewInfo}
-use Rattle.array_buffers.specs.Buffers.{ArrayBuffer, BufferView, Buffers, total_bytes, view_end, AreWithinLimits}
+use Rattle.napi_types.specs.declared.view.ViewInfo.{ViewInfo}
+use Rattle.napi_types.specs.parts.Buffers.{ArrayBuffer, BufferView, Buffers, total_bytes, view_end, AreWithinLimits}
 
 -- the bytes of a row, and how many they are
 abbrev pub row_bytes : BufferRow → Option (List ℕ)

@@ -1,2 +1,2 @@
 pub mod BufferTables
-pub mod Buffers
+pub mod KeptBuffers

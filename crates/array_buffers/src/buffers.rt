@@ -1,12 +1,14 @@
 //! Buffers and views by their values.
-ghost use Rattle.std.specs.Prelude.{◌≡◌, ◌+◌, ◌*◌, ◌^◌, ◌%◌, ◌≤◌, None, Some, false, IfOk, IfSome, IsSome, IsSomeAnd, OnOk, OnErr, is_some, option_map};
+ghost use Rattle.std.specs.Prelude.{◌≡◌, ◌+◌, ◌*◌, ◌^◌, ◌%◌, ◌≤◌, ◌<◌, None, Some, false, IfOk, IfSome, IsSome, IsSomeAnd, OnOk, OnErr, is_some, option_map};
 ghost use Rattle.napi_types.specs.parts.Book.{due_where};
-ghost use Rattle.array_buffers.specs.Buffers.{no_buffers, most_buffer_bytes, most_bytes_together, IsElementSize, buffer_at, view_at, is_viewed, buffer_length, total_bytes, is_detached_buffer, live_bytes, buffer_ticket, view_end, element_read, with_buffer, with_view, with_detached, with_element_written, without_buffer, IsGivenTicket, is_this_ticket, AreWithinLimits};
+ghost use Rattle.napi_types.specs.parts.Buffers.{no_buffers, most_buffer_bytes, most_bytes_together, IsElementSize, buffer_at, view_at, is_viewed, buffer_length, total_bytes, is_detached_buffer, live_bytes, buffer_ticket, view_end, element_read, with_buffer, with_view, with_detached, with_element_written, without_buffer, IsGivenTicket, is_this_ticket, AreWithinLimits};
+ghost use Rattle.array_buffers.specs.KeptBuffers.{AreBufferMaps};
 
-use crate::row::{BufferRow, ViewInfo};
+use crate::row::BufferRow;
 use crate::rows;
+use crate::zeros::Zeros;
 use finalizer_queue::Book;
-use napi_types::{NoMemory, Ticket, ValueId};
+use napi_types::{NoMemory, Ticket, ValueId, ViewInfo};
 use std::alloc::Global;
 use std::collections::HashMap;
 use std::marker::Model;
@@ -25,12 +27,14 @@ pub struct Buffers {
 }
 
 impl Model for Buffers {
-    ghost use Rattle.array_buffers.specs.Buffers.{Buffers};
+    ghost use Rattle.std.specs.Prelude.{min};
+    ghost use Rattle.std.specs.HashMap.{spare};
     ghost use Rattle.array_buffers.specs.BufferTables.{buffers_of, StandsForBuffers};
+    ghost use Rattle.array_buffers.specs.KeptBuffers.{KeptBuffers};
 
-    ghost Value = { Buffers };
+    ghost Value = { KeptBuffers };
 
-    ghost view = { λ b. buffers_of b.rows.entries b.views.entries };
+    ghost view = { λ b. record { buffers = buffers_of b.rows.entries b.views.entries; spare = min (spare b.rows) (spare b.views) } };
 
     ghost invariant = { λ b. StandsForBuffers b.total (buffers_of b.rows.entries b.views.entries) };
 }
@@ -38,7 +42,7 @@ impl Model for Buffers {
 impl Buffers {
     /// No buffers.
     pub fn new(alloc: Global) -> Result<Buffers, NoMemory>
-        ensures { IfOk result (λ b. b ≡ no_buffers) }
+        ensures { IfOk result (λ b. b.buffers ≡ no_buffers) }
     {
         Ok(Buffers {
             alloc,
@@ -48,9 +52,10 @@ impl Buffers {
         })
     }
 
-    /// No effect. Its clause is what holds of all buffers and views.
+    /// No effect. Its clauses are what holds of all buffers and views.
     pub fn invariant(&self)
-        ensures { AreWithinLimits self.now }
+        ensures limits { AreWithinLimits self.now.buffers }
+        ensures maps { AreBufferMaps self.now.buffers }
     {
         let _total = self.total;
     }
@@ -67,20 +72,57 @@ impl Buffers {
         ticket: Option<Ticket>,
     ) -> Result<(), NoMemory>
         requires few { length ≤ most_buffer_bytes }
-        requires together { total_bytes self.old + length ≤ most_bytes_together }
-        requires absent { buffer_at self.old value.0 ≡ None }
-        requires unviewed { is_viewed self.old value.0 ≡ false }
-        ensures made { OnOk result (self.new ≡ with_buffer value.0 length (option_map (λ t. t.0) ticket) self.old) }
-        ensures err { OnErr result (self.new ≡ self.old) }
+        requires together { total_bytes self.old.buffers + length ≤ most_bytes_together }
+        requires absent { buffer_at self.old.buffers value.0 ≡ None }
+        requires unviewed { is_viewed self.old.buffers value.0 ≡ false }
+        ensures made { OnOk result (self.new.buffers ≡ with_buffer value.0 length (option_map (λ t. t.0) ticket) self.old.buffers) }
+        ensures err { OnErr result (self.new.buffers ≡ self.old.buffers) }
     {
-        let bytes = vec![in self.alloc; 0; length as usize]?;
+        let bytes = self.zeros(length)?;
+        self.reserve()?;
+        self.make_reserved(value, bytes, ticket);
+        Ok(())
+    }
+
+    /// Takes the memory for one buffer and one view more: [`Buffers::make_reserved`] and [`Buffers::view_reserved`] then take none.
+    ///
+    /// Near constant time: now and then the tables grow.
+    pub fn reserve(&mut self) -> Result<(), NoMemory>
+        ensures place { OnOk result (0 < self.new.spare) }
+        ensures same { self.new.buffers ≡ self.old.buffers }
+    {
+        self.rows.reserve(1)?;
+        self.views.reserve(1)?;
+        Ok(())
+    }
+
+    /// The bytes of a buffer that is to be made, which are taken at once.
+    ///
+    /// Linear in how many they are.
+    pub fn zeros(&self, length: u32) -> Result<Zeros, NoMemory>
+        ensures { IfOk result (λ zeros. zeros ≡ length) }
+    {
+        Zeros::new(self.alloc, length)
+    }
+
+    /// As [`Buffers::make`], where the memory was taken before.
+    ///
+    /// Near constant time. It takes no memory: [`Buffers::reserve`] and [`Buffers::zeros`] took it.
+    pub fn make_reserved(&mut self, value: ValueId, bytes: Zeros, ticket: Option<Ticket>)
+        requires place { 0 < self.old.spare }
+        requires few { bytes ≤ most_buffer_bytes }
+        requires together { total_bytes self.old.buffers + bytes ≤ most_bytes_together }
+        requires absent { buffer_at self.old.buffers value.0 ≡ None }
+        requires unviewed { is_viewed self.old.buffers value.0 ≡ false }
+        ensures { self.new.buffers ≡ with_buffer value.0 bytes (option_map (λ t. t.0) ticket) self.old.buffers }
+    {
+        let length = bytes.length();
         let row = BufferRow {
-            bytes: Some(bytes),
+            bytes: Some(bytes.into_bytes()),
             ticket,
         };
-        rows::put(&mut self.rows, value, row)?;
+        rows::put(&mut self.rows, value, row);
         self.total += length as u64;
-        Ok(())
     }
 
     /// Makes a view of a value: the manual's `napi_create_typedarray`. It lies in a buffer. The end of one that is detached is 0.
@@ -88,19 +130,33 @@ impl Buffers {
     /// Near constant time: now and then the table of views grows.
     pub fn view(&mut self, value: ValueId, about: ViewInfo) -> Result<(), NoMemory>
         requires size { IsElementSize about.size }
-        requires within { IsSomeAnd (buffer_length self.old about.buffer.0) (λ end. view_end about ≤ end) }
-        ensures made { OnOk result (self.new ≡ with_view value.0 about self.old) }
-        ensures err { OnErr result (self.new ≡ self.old) }
+        requires within { IsSomeAnd (buffer_length self.old.buffers about.buffer.0) (λ end. view_end about ≤ end) }
+        ensures made { OnOk result (self.new.buffers ≡ with_view value.0 about self.old.buffers) }
+        ensures err { OnErr result (self.new.buffers ≡ self.old.buffers) }
     {
-        self.views.insert(value.0, about)?;
+        self.reserve()?;
+        self.view_reserved(value, about);
         Ok(())
+    }
+
+    /// As [`Buffers::view`], where the memory was taken before.
+    ///
+    /// Near constant time. It takes no memory: [`Buffers::reserve`] took it.
+    pub fn view_reserved(&mut self, value: ValueId, about: ViewInfo)
+        requires place { 0 < self.old.spare }
+        requires size { IsElementSize about.size }
+        requires within { IsSomeAnd (buffer_length self.old.buffers about.buffer.0) (λ end. view_end about ≤ end) }
+        ensures { self.new.buffers ≡ with_view value.0 about self.old.buffers }
+    {
+        rows::put_view(&mut self.views, value, about);
     }
 
     /// How many bytes all buffers have together. One that is detached has none.
     ///
     /// Constant time.
     pub fn total(&self) -> u64
-        ensures { result ≡ total_bytes self.now }
+        ensures sum { result ≡ total_bytes self.now.buffers }
+        ensures most { result ≤ most_bytes_together }
     {
         self.total
     }
@@ -110,7 +166,7 @@ impl Buffers {
     ///
     /// Near constant time.
     pub fn length(&self, value: ValueId) -> Option<u32>
-        ensures { result ≡ buffer_length self.now value.0 }
+        ensures { result ≡ buffer_length self.now.buffers value.0 }
     {
         let row = self.rows.get(&value.0)?;
         Some(row.length() as u32)
@@ -120,7 +176,7 @@ impl Buffers {
     ///
     /// Near constant time.
     pub fn detached(&self, value: ValueId) -> bool
-        ensures { result ≡ is_detached_buffer self.now value.0 }
+        ensures { result ≡ is_detached_buffer self.now.buffers value.0 }
     {
         match self.rows.get(&value.0) {
             Some(row) => row.bytes.is_none(),
@@ -132,7 +188,7 @@ impl Buffers {
     ///
     /// Near constant time.
     pub fn about(&self, value: ValueId) -> Option<ViewInfo>
-        ensures { result ≡ view_at self.now value.0 }
+        ensures { result ≡ view_at self.now.buffers value.0 }
     {
         self.views.get(&value.0).copied()
     }
@@ -141,8 +197,8 @@ impl Buffers {
     ///
     /// Near constant time. It takes no memory.
     pub fn detach(&mut self, value: ValueId)
-        requires { IsSome (live_bytes self.old value.0) }
-        ensures { self.new ≡ with_detached value.0 self.old }
+        requires { IsSome (live_bytes self.old.buffers value.0) }
+        ensures { self.new.buffers ≡ with_detached value.0 self.old.buffers }
     {
         let given_back = rows::detach(&mut self.rows, value);
         self.total -= given_back as u64;
@@ -153,7 +209,7 @@ impl Buffers {
     ///
     /// Near constant time, whatever the buffer's length.
     pub fn get(&self, view: ValueId, at: u64) -> Option<u64>
-        ensures { result ≡ element_read self.now view.0 at }
+        ensures { result ≡ element_read self.now.buffers view.0 at }
     {
         let about = self.views.get(&view.0)?;
         rows::read(&self.rows, *about, at)
@@ -164,10 +220,10 @@ impl Buffers {
     ///
     /// Near constant time, whatever the buffer's length. It takes no memory.
     pub fn set(&mut self, view: ValueId, at: u64, to: u64) -> bool
-        ensures accepted { result ≡ is_some (element_read self.old view.0 at) }
-        ensures written { self.new ≡ with_element_written view.0 at to self.old }
-        ensures kept { IfSome (view_at self.old view.0) (λ about. element_read self.new view.0 at
-            ≡ option_map (λ _. to % 2 ^ (8 * about.size)) (element_read self.old view.0 at)) }
+        ensures accepted { result ≡ is_some (element_read self.old.buffers view.0 at) }
+        ensures written { self.new.buffers ≡ with_element_written view.0 at to self.old.buffers }
+        ensures kept { IfSome (view_at self.old.buffers view.0) (λ about. element_read self.new.buffers view.0 at
+            ≡ option_map (λ _. to % 2 ^ (8 * about.size)) (element_read self.old.buffers view.0 at)) }
     {
         let Some(about) = self.views.get(&view.0).copied() else {
             return false;
@@ -180,9 +236,9 @@ impl Buffers {
     ///
     /// Near constant time, beside the logarithm of how many tickets are due. It takes no memory.
     pub fn gone(&mut self, value: ValueId, book: &mut Book)
-        requires { IsGivenTicket (buffer_ticket self.old value.0) book.old.book }
-        ensures forgotten { self.new ≡ without_buffer value.0 self.old }
-        ensures due { book.new.book ≡ due_where (is_this_ticket (buffer_ticket self.old value.0)) book.old.book }
+        requires { IsGivenTicket (buffer_ticket self.old.buffers value.0) book.old.book }
+        ensures forgotten { self.new.buffers ≡ without_buffer value.0 self.old.buffers }
+        ensures due { book.new.book ≡ due_where (is_this_ticket (buffer_ticket self.old.buffers value.0)) book.old.book }
         ensures spare { book.old.spare ≤ book.new.spare }
     {
         self.views.remove(&value.0);

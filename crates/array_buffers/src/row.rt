@@ -3,21 +3,11 @@ ghost use Rattle.std.specs.Prelude.{◌≡◌, ◌+◌, ◌≤◌, ◌<◌, None
 ghost use Rattle.std.specs.Int.{w64, from_le_bytes, bytes_low_first};
 ghost use Rattle.std.specs.Option.{option_and_then};
 ghost use Rattle.napi_types.specs.parts.Book.{due_where};
-ghost use Rattle.array_buffers.specs.Buffers.{IsElementSize, view_end, element_start, element_in, overwritten, with_element_in, IsGivenTicket, is_this_ticket};
+ghost use Rattle.napi_types.specs.parts.Buffers.{IsElementSize, view_end, element_start, element_in, overwritten, with_element_in, IsGivenTicket, is_this_ticket};
 ghost use Rattle.array_buffers.specs.BufferTables.{row_bytes, row_length, EndsWithin};
 
 use finalizer_queue::Book;
-use napi_types::{Ticket, ValueId};
-
-/// Where a view lies: its buffer, how many bytes an element of it has, which are 1, 2, 4 or 8, where the first element begins in the
-/// bytes of the buffer, and how many elements there are.
-#[derive(Clone, Copy, Debug, PartialEq, Eq)]
-pub struct ViewInfo {
-    pub buffer: ValueId,
-    pub size: u32,
-    pub offset: u32,
-    pub length: u32,
-}
+use napi_types::{Ticket, ViewInfo};
 
 /// A buffer: its bytes until it is detached, and the ticket of an external one's finalizer.
 #[derive(Drop)]

@@ -1,26 +1,35 @@
 //! The table of buffers, read and changed by the number of a value.
-ghost use Rattle.std.specs.Prelude.{◌≡◌, ◌≤◌, ℕ, nat_eq, None, Some, cond, option_map, is_some, IsSome, OnOk, OnErr};
+ghost use Rattle.std.specs.Prelude.{◌≡◌, ◌≤◌, ◌<◌, ℕ, nat_eq, None, Some, cond, option_map, is_some, IsSome};
+ghost use Rattle.std.specs.HashMap.{spare};
+ghost use Rattle.std.specs.Map.{lookup};
 ghost use Rattle.std.specs.Option.{option_and_then, option_map_or};
 ghost use Rattle.napi_types.specs.parts.Book.{due_where};
-ghost use Rattle.array_buffers.specs.Buffers.{IsElementSize, buffer_bytes, element_in, with_element_in, IsGivenTicket, is_this_ticket};
+ghost use Rattle.napi_types.specs.parts.Buffers.{IsElementSize, buffer_bytes, element_in, with_element_in, IsGivenTicket, is_this_ticket};
 ghost use Rattle.array_buffers.specs.BufferTables.{buffer_row, buffer_row_at, bytes_of_row, ticket_of_row, row_changed, EndsWithin};
 
-use crate::row::{self, BufferRow, ViewInfo};
+use crate::row::{self, BufferRow};
 use finalizer_queue::Book;
-use napi_types::{NoMemory, ValueId};
+use napi_types::{ValueId, ViewInfo};
 use std::collections::HashMap;
 
-/// Puts a buffer where there is none of its value.
-pub(crate) fn put(
-    rows: &mut HashMap<u64, BufferRow>,
-    value: ValueId,
-    row: BufferRow,
-) -> Result<(), NoMemory>
-    ensures ok { OnOk result ((w : ℕ) → buffer_row_at w rows.new.entries ≡ cond (nat_eq value.0 w) (Some (buffer_row w row)) (buffer_row_at w rows.old.entries)) }
-    ensures err { OnErr result ((w : ℕ) → buffer_row_at w rows.new.entries ≡ buffer_row_at w rows.old.entries) }
+/// Puts a buffer where there is none of its value. There is room for it.
+pub(crate) fn put(rows: &mut HashMap<u64, BufferRow>, value: ValueId, row: BufferRow)
+    requires { 0 < spare rows.old }
+    ensures { (w : ℕ) → buffer_row_at w rows.new.entries ≡ cond (nat_eq value.0 w) (Some (buffer_row w row)) (buffer_row_at w rows.old.entries) }
 {
-    rows.insert(value.0, row)?;
-    Ok(())
+    let Ok(_) = rows.insert(value.0, row) else {
+        unreachable!()
+    };
+}
+
+/// Puts a view. There is room for it.
+pub(crate) fn put_view(views: &mut HashMap<u64, ViewInfo>, value: ValueId, about: ViewInfo)
+    requires { 0 < spare views.old }
+    ensures { (w : ℕ) → lookup (nat_eq w) views.new.entries ≡ cond (nat_eq value.0 w) (Some about) (lookup (nat_eq w) views.old.entries) }
+{
+    let Ok(_) = views.insert(value.0, about) else {
+        unreachable!()
+    };
 }
 
 /// Detaches a buffer that is not detached. How many bytes it had.

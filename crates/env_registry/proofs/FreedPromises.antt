@@ -17,11 +17,11 @@ one-more vs x n =
     last true = refl
     last false = refl
 
-filter-none : {A : Type 0} (xs : List A) → filter (λ x. true) xs ≡ xs
+pub filter-none : {A : Type 0} (xs : List A) → filter (λ x. true) xs ≡ xs
 filter-none [] = refl
 filter-none (x ∷ xs) = ap (λ ys. x ∷ ys) (filter-none xs)
 
-filter-more : {A : Type 0} (number : A → ℕ) (vs : List ValueId) (x : ValueId) (xs : List A)
+pub filter-more : {A : Type 0} (number : A → ℕ) (vs : List ValueId) (x : ValueId) (xs : List A)
     → filter (λ r. not (number r == x.0)) (filter (λ r. not (is_one_of vs (number r))) xs) ≡ filter (λ r. not (is_one_of (vs ++ x ∷ []) (number r))) xs
 filter-more number vs x [] = refl
 filter-more {A} number vs x (r ∷ rs) =

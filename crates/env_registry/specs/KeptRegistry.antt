@@ -1,19 +1,22 @@
 -- The registry as its callers see it.
-use Rattle.std.specs.Prelude.{◌≡◌, ◌≢◌, ℕ, ◌≤◌, [], length, replicate, None, IfSome}
-use Rattle.std.specs.List.{All}
+use Rattle.std.specs.Prelude.{◌≡◌, ◌≢◌, ℕ, ◌≤◌, ◌==◌, Bool, true, ◌&&◌, [], length, replicate, None, IfSome}
+use Rattle.std.specs.List.{All, list_any}
 use Rattle.napi_types.specs.declared.entry.Cause.TheVariants as cause
 use Rattle.napi_types.specs.plain.Lists.{as_map}
 use Rattle.napi_types.specs.parts.Attachments.{Attachments, no_attachments}
-use Rattle.napi_types.specs.parts.Book.{Book}
+use Rattle.napi_types.specs.parts.Book.{Book, due_where}
+use Rattle.napi_types.specs.parts.Buffers.{Buffers, no_buffers}
 use Rattle.napi_types.specs.parts.Promises.{no_promises}
 use Rattle.napi_types.specs.environment.Registry.{Registry}
 
--- the parts, and for how many attachments to values, for how many tickets and for how many promises more there is the memory
+-- the parts, and for how many attachments to values, for how many tickets, for how many promises, and for how many buffers and views more there is the
+-- memory
 pub record KeptRegistry : Type 0 where
   pub parts : Registry
   pub places : ℕ
   pub slips : ℕ
   pub deferreds : ℕ
+  pub blocks : ℕ
 
 -- the parts before anything is registered, with a place for the instance data of each of so many addons
 abbrev pub new_parts : ℕ → Registry
@@ -24,6 +27,7 @@ new_parts addons = record {
   async_hooks = [];
   instances = replicate addons None;
   promises = no_promises;
+  buffers = no_buffers;
 }
 
 -- the book gave the ticket
@@ -41,3 +45,16 @@ pub record IsKeptRegistry (a : Attachments) (book : Book) : Type 0 where
   pub given_with_wraps : All (λ w. IfSome w.ticket (IsGiven book)) a.wraps
   pub given : All (λ t. IsGiven book t.ticket) a.tickets
   pub uncalled : All (λ r. r.cause ≢ cause.Call) book
+
+-- a finalizer with this ticket is attached to this value
+abbrev pub has_ticket_on : Attachments → ℕ → ℕ → Bool
+has_ticket_on a v ticket = list_any (λ t. (t.value == v) && (t.ticket == ticket)) a.tickets
+
+-- the ticket of each external buffer is one of those that are attached to its value
+abbrev pub AgreeOnTickets : Attachments → Buffers → Type 0
+AgreeOnTickets a b = All (λ r. IfSome r.ticket (λ t. has_ticket_on a r.value t ≡ true)) b.buffers
+
+-- the book gave the ticket, and there it falls due no more: it is due, or it was registered no longer
+pub record IsDueAlready (book : Book) (ticket : ℕ) : Type 0 where
+  pub given : IsGiven book ticket
+  pub same : due_where (λ n. n == ticket) book ≡ book

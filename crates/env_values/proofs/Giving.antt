@@ -56,9 +56,8 @@ given-answer before after v h number is =
     ap (λ n. accepts (out.Handle (record { 0 = n })) (with_handle v before)) (sym number) ∙ ap (λ (heap : Heap). accepts (out.Handle h) heap) (sym is)
 
 -- A NEW VALUE
-pub makes-agrees : (s t : StoreState) (id : ℕ) (v : Value) → IsSoundStore s → MakesValue s t id v → Agrees s t
-makes-agrees s t id v sound step n live =
-    let apart : n ≢ id = λ same. stands same in ap (λ o. unwrap_or (option_map (λ (v : Value). v.number) o) 0) (step.others n apart)
+pub makes-others : (s t : StoreState) (id : ℕ) (v : Value) → IsSoundStore s → MakesValue s t id v → (n : ℕ) → IsLive s n → value_of t n ≡ value_of s n
+makes-others s t id v sound step n live = step.others n (λ same. stands same)
   where
     stands : n ≡ id → ⊥
     stands same =
@@ -66,6 +65,9 @@ makes-agrees s t id v sound step n live =
         let fresh : has_number id s.issued ≡ false = (or_parts (0 == id) (has_number id s.issued) step.fresh).1 in
         let both : has_number n s.issued ≡ false = subst (λ (k : ℕ). has_number k s.issued ≡ false) (sym same) fresh in
         cc
+
+pub makes-agrees : (s t : StoreState) (id : ℕ) (v : Value) → IsSoundStore s → MakesValue s t id v → Agrees s t
+makes-agrees s t id v sound step n live = ap (λ o. unwrap_or (option_map (λ (v : Value). v.number) o) 0) (makes-others s t id v sound step n live)
 
 -- the store has it as v, and its graph as w
 pub made-heap : (s t : StoreState) (scopes after : HandleScopes) (id : ℕ) (v w : Value) → IsSoundStore s → MakesValue s t id v → v.number ≡ s.made + 1 → graph_of t ≡ graph_of s ++ w ∷ []

@@ -4,8 +4,8 @@ pub mod HandleValues
 pub mod Heaps
 pub mod Held
 pub mod KeepingHeaps
-pub mod Linked
 pub mod ListedNames
 pub mod Numbering
+pub mod PromiseLinks
 pub mod SeenValues
 pub mod UnrefusedValues

@@ -1,7 +1,11 @@
 -- The heap of the machine that a store of values and handle scopes stand for.
-use Rattle.std.specs.Prelude.{◌≡◌, ℕ, map}
+use Rattle.std.specs.Prelude.{◌≡◌, ℕ, map, Option, Some, None, option_map}
 use Rattle.std.specs.List.{All}
-use Rattle.napi_types.specs.parts.Graph.{StoreState, IsLive, number_in, graph_of}
+use Rattle.std.specs.Option.{option_and_then}
+use Rattle.napi_types.specs.declared.body.Body.{Body}
+use Rattle.napi_types.specs.declared.body.Body.TheVariants as body
+use Rattle.napi_types.specs.parts.Bodies.{promise_tag, view_tag}
+use Rattle.napi_types.specs.parts.Graph.{StoreState, IsLive, value_of, number_in, graph_of}
 use Rattle.napi_types.specs.parts.Heap.{Heap}
 use Rattle.napi_types.specs.parts.Scopes.{OpenHandle, Scope, FrameScopes, held_by_frames}
 use Rattle.handle_scope.specs.HandleScopes.{HandleScopes}
@@ -28,10 +32,28 @@ heap_of store scopes = record {
   scope_numbers = scopes.scope_numbers;
 }
 
--- each live value stays live under its creation number, whether or not a scope holds it
+-- what a value of the store is, and its hidden child
+abbrev pub body_in : StoreState → ℕ → Option Body
+body_in s id = option_map (λ v. v.body) (value_of s id)
+
+abbrev pub link_in : StoreState → ℕ → Option ℕ
+link_in s id = option_and_then (λ v. v.link) (value_of s id)
+
+-- a value is a promise
+abbrev pub IsPromiseIn : StoreState → ℕ → Type 0
+IsPromiseIn s id = body_in s id ≡ Some (body.Linked promise_tag None)
+
+-- a value is a view of this buffer
+pub record IsViewIn (s : StoreState) (id buffer : ℕ) : Type 0 where
+  pub body : body_in s id ≡ Some (body.Linked view_tag None)
+  pub link : link_in s id ≡ Some buffer
+
+-- each live value stays live under its creation number, whether or not a scope holds it, and stays what it is; and a view has its buffer
 pub record KeepsValues (old new : StoreState) : Type 0 where
   pub live : (id : ℕ) → IsLive old id → IsLive new id
   pub numbers : (id : ℕ) → IsLive old id → number_in new id ≡ number_in old id
+  pub bodies : (id : ℕ) → IsLive old id → body_in new id ≡ body_in old id
+  pub views : (id buffer : ℕ) → IsViewIn old id buffer → link_in new id ≡ Some buffer
 
 -- each value that an open scope holds is live in the store
 abbrev pub HoldsLive : StoreState → HandleScopes → Type 0

@@ -9,12 +9,10 @@ ghost use Rattle.std.specs.Option.{unwrap_or};
 ghost use Rattle.env_values.specs.SeenValues.{heap_of, HoldsLive};
 ghost use Rattle.env_values.specs.ValueSteps.{IsValueOf, IsLentBy, IsStored};
 
+use crate::linked::PROMISE_TAG;
 use handle_scope::Scopes;
 use napi_types::{Body, HandleId, Status, TextNo, ValueId};
 use value_store::{Store, ValueInfo};
-
-/// The tag of a value that is a promise: `promise_tag` of the definitions.
-pub(crate) const PROMISE_TAG: u8 = 1;
 
 /// The value that a handle gives: its number in the store, and what it is.
 #[derive(Clone, Copy)]

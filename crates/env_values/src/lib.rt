@@ -5,9 +5,9 @@
 
 mod errors;
 mod known;
+mod linked;
 mod makes;
 mod names;
-mod promises;
 mod properties;
 mod reads;
 mod step;
@@ -16,6 +16,6 @@ mod values;
 
 pub use errors::{error_value, thrown_value};
 pub use known::{HandleValue, invariant, or_undefined, value_of_handle};
+pub use linked::{BUFFER_TAG, PROMISE_TAG, VIEW_TAG, make_linked, settle_with};
 pub use makes::make_held;
-pub use promises::{make_promise, settle_with};
 pub use step::value_step;

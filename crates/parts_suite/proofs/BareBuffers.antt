@@ -6,7 +6,7 @@ use Rattle.std.proofs.lemmas.List.Elements.{All-map, All-weaker, All-filter}
 use Rattle.napi_types.specs.parts.Book.{Book}
 use Rattle.napi_types.proofs.plain.Found.{found-All}
 use Rattle.napi_types.proofs.plain.Maps.{All-with_record}
-use Rattle.array_buffers.specs.Buffers.{ArrayBuffer, Buffers, buffer_at, buffer_ticket, with_buffer, with_detached, without_buffer, IsGivenTicket}
+use Rattle.napi_types.specs.parts.Buffers.{ArrayBuffer, Buffers, buffer_at, buffer_ticket, with_buffer, with_detached, without_buffer, IsGivenTicket}
 
 abbrev pub IsBare : ArrayBuffer → Type 0
 IsBare r = r.ticket ≡ None

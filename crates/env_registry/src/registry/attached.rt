@@ -2,6 +2,7 @@
 ghost use Rattle.std.specs.Prelude.{◌≡◌, ◌<◌, ◌^◌, None, length, option_map, IfSome, IsSome, OnOk, OnErr};
 ghost use Rattle.napi_types.specs.parts.Attachments.{wrap_of, wrap_ticket, tag_of as tag_at, with_wrap, without_wrap, with_tag, is_attached_to, left_on};
 ghost use Rattle.napi_types.specs.parts.Book.{due_where};
+ghost use Rattle.napi_types.specs.parts.Buffers.{buffers_left};
 ghost use Rattle.napi_types.specs.parts.Promises.{promises_left};
 ghost use Rattle.napi_types.specs.environment.ExternalCalls.{attached_if};
 ghost use Rattle.napi_types.specs.environment.Registering.{registered_only};
@@ -9,6 +10,7 @@ ghost use Rattle.wrap_tag.specs.Wraps.{is_one_of};
 ghost use Rattle.env_registry.specs.Registering.{finalizer_registration, ticket_for, with_registration_if, duty_if, withdrawn_if};
 
 use super::Registry;
+use super::buffers::take_buffers_away;
 use super::promises::take_away;
 use crate::finalizer::Finalizer;
 use crate::registering::{duty_of, register_if, reserve_if, withdraw_if};
@@ -127,7 +129,7 @@ impl Registry {
     }
 
     /// These values are freed: what is attached to them is forgotten, the tickets of their finalizers fall due where they are
-    /// registered, and those that were promises are none any more.
+    /// registered, and those that were promises, buffers or views are none any more.
     ///
     /// The time grows with the values and their tickets. It takes no memory.
     pub fn gone_all(&mut self, values: &[ValueId])
@@ -135,9 +137,11 @@ impl Registry {
           attachments = left_on (is_one_of values.now) self.old.parts.attachments;
           book = due_where (is_attached_to (is_one_of values.now) self.old.parts.attachments) self.old.parts.book;
           promises = promises_left (is_one_of values.now) self.old.parts.promises;
+          buffers = buffers_left (is_one_of values.now) self.old.parts.buffers;
         } }
     {
         self.wraps.gone_all(values, &mut self.book);
         take_away(&mut self.promises, values);
+        take_buffers_away(&mut self.buffers, values, &mut self.book);
     }
 }

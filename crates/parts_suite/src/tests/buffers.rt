@@ -2,12 +2,12 @@
 //! memory, and that bytes which are detached or gone make room again. No clause says so.
 ghost use Rattle.std.specs.Prelude.{◌≡◌, [], None};
 ghost use Rattle.std.specs.List.{All};
-ghost use Rattle.array_buffers.specs.Buffers.{IsElementSize};
+ghost use Rattle.napi_types.specs.parts.Buffers.{IsElementSize};
 
 use super::ample;
-use array_buffers::{Buffers, ViewInfo};
+use array_buffers::Buffers;
 use finalizer_queue::Book;
-use napi_types::ValueId;
+use napi_types::{ValueId, ViewInfo};
 use std::alloc::Global;
 use std::process::Abort;
 
@@ -24,10 +24,10 @@ const NUMBER: u64 = 0x1122_3344_5566_7788;
 
 /// A buffer is made of a value that is none, where there is room. Whether it was.
 fn make(rt: &impl Abort, buffers: &mut Buffers, value: ValueId) -> bool
-    requires views { buffers.old.views ≡ [] }
-    requires bare { All (λ r. r.ticket ≡ None) buffers.old.buffers }
-    ensures views { buffers.new.views ≡ [] }
-    ensures bare { All (λ r. r.ticket ≡ None) buffers.new.buffers }
+    requires views { buffers.old.buffers.views ≡ [] }
+    requires bare { All (λ r. r.ticket ≡ None) buffers.old.buffers.buffers }
+    ensures views { buffers.new.buffers.views ≡ [] }
+    ensures bare { All (λ r. r.ticket ≡ None) buffers.new.buffers.buffers }
 {
     if buffers.total() > TOGETHER - MOST as u64 || buffers.length(value).is_some() {
         return false;
@@ -38,10 +38,10 @@ fn make(rt: &impl Abort, buffers: &mut Buffers, value: ValueId) -> bool
 
 /// As many are made as there is room for. How many that are.
 fn fill(rt: &impl Abort, buffers: &mut Buffers) -> u64
-    requires views { buffers.old.views ≡ [] }
-    requires bare { All (λ r. r.ticket ≡ None) buffers.old.buffers }
-    ensures bare { All (λ r. r.ticket ≡ None) buffers.new.buffers }
-    ensures views { buffers.new.views ≡ [] }
+    requires views { buffers.old.buffers.views ≡ [] }
+    requires bare { All (λ r. r.ticket ≡ None) buffers.old.buffers.buffers }
+    ensures bare { All (λ r. r.ticket ≡ None) buffers.new.buffers.buffers }
+    ensures views { buffers.new.buffers.views ≡ [] }
 {
     let mut made = 0;
     for value in 0..300 {
@@ -54,10 +54,10 @@ fn fill(rt: &impl Abort, buffers: &mut Buffers) -> u64
 
 /// A buffer is detached, where it is one that is not.
 fn detach(buffers: &mut Buffers, value: ValueId)
-    requires views { buffers.old.views ≡ [] }
-    requires bare { All (λ r. r.ticket ≡ None) buffers.old.buffers }
-    ensures bare { All (λ r. r.ticket ≡ None) buffers.new.buffers }
-    ensures views { buffers.new.views ≡ [] }
+    requires views { buffers.old.buffers.views ≡ [] }
+    requires bare { All (λ r. r.ticket ≡ None) buffers.old.buffers.buffers }
+    ensures bare { All (λ r. r.ticket ≡ None) buffers.new.buffers.buffers }
+    ensures views { buffers.new.buffers.views ≡ [] }
 {
     if buffers.length(value).is_some() && !buffers.detached(value) {
         buffers.detach(value);
@@ -66,10 +66,10 @@ fn detach(buffers: &mut Buffers, value: ValueId)
 
 /// A buffer is gone.
 fn gone(buffers: &mut Buffers, value: ValueId, book: &mut Book)
-    requires views { buffers.old.views ≡ [] }
-    requires bare { All (λ r. r.ticket ≡ None) buffers.old.buffers }
-    ensures bare { All (λ r. r.ticket ≡ None) buffers.new.buffers }
-    ensures views { buffers.new.views ≡ [] }
+    requires views { buffers.old.buffers.views ≡ [] }
+    requires bare { All (λ r. r.ticket ≡ None) buffers.old.buffers.buffers }
+    ensures bare { All (λ r. r.ticket ≡ None) buffers.new.buffers.buffers }
+    ensures views { buffers.new.buffers.views ≡ [] }
 {
     buffers.gone(value, book);
 }

@@ -1,6 +1,6 @@
 use Rattle.std.proofs.Common.{◌∙◌, ◌++◌, drop, length, ap, [], ◌∷◌}
 use Rattle.std.specs.Int.{w64, from_le_bytes}
-use Rattle.array_buffers.proofs.ElementBytes.{number-padded, eight-zeros}
+use Rattle.array_buffers.proofs.Bytes.{number-padded, eight-zeros}
 use Rattle.array_buffers.proofs.row.number_of.Goals as goal
 
 pub returns : goal.returns

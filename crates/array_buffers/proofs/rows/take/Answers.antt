@@ -1,8 +1,8 @@
 use Rattle.std.proofs.Common.{◌∙◌, option_map, sym, ap}
 use Rattle.napi_types.specs.parts.Book.{due_where}
-use Rattle.array_buffers.specs.Buffers.{is_this_ticket}
+use Rattle.napi_types.specs.parts.Buffers.{is_this_ticket}
 use Rattle.array_buffers.specs.BufferTables.{buffer_row, ticket_of_row}
-use Rattle.array_buffers.proofs.BufferTickets.{due-no_ticket}
+use Rattle.array_buffers.proofs.Tickets.{due-no_ticket}
 use Rattle.array_buffers.proofs.rows.take.Goals as goal
 
 pub returns-in-None-clause-due : goal.returns-in-None-clause-due

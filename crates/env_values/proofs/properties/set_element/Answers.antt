@@ -9,7 +9,7 @@ use Rattle.env_values.specs.SeenValues.{heap_of}
 use Rattle.env_values.proofs.Coming.{comes-without_memory}
 use Rattle.env_values.proofs.Giving.{more-live}
 use Rattle.env_values.proofs.Heaps.{with_changed-heap}
-use Rattle.env_values.proofs.KeepingHeaps.{keeps_changed}
+use Rattle.env_values.proofs.KeepingHeaps.{plain-kind, keeps_changed}
 use Rattle.env_values.proofs.UnrefusedValues.{set_element-unrefused}
 use Rattle.env_values.proofs.properties.set_element.Goals as goal
 
@@ -35,7 +35,8 @@ returns-clause-comes c = λ texts.
     )
 
 pub returns-clause-keeps : goal.returns-clause-keeps
-returns-clause-keeps c = let values = keeps_changed c.args.store.now c.set_element.new.self c.in_ok-object.object.id.0 _ (λ v. refl) c.in_ok-set_element.ensures.set in record {
-  scopes = record { live = more-live c.args.store.now c.set_element.new.self c.args.scopes.now values.live c.requires; calls = refl };
-  values = values;
-}
+returns-clause-keeps c = let values = keeps_changed c.args.store.now c.set_element.new.self c.in_ok-object.object.id.0 _
+    (plain-kind c.args.store.now c.in_ok-object.object.id.0 _ (λ v. refl) (λ v. refl) (λ v. refl)) c.in_ok-set_element.ensures.set in record {
+      scopes = record { live = more-live c.args.store.now c.set_element.new.self c.args.scopes.now values.live c.requires; calls = refl };
+      values = values;
+    }

@@ -9,7 +9,7 @@ use Rattle.env_values.specs.SeenValues.{heap_of}
 use Rattle.env_values.proofs.Coming.{comes-without_memory}
 use Rattle.env_values.proofs.Giving.{more-live}
 use Rattle.env_values.proofs.Heaps.{with_changed-heap}
-use Rattle.env_values.proofs.KeepingHeaps.{keeps_changed}
+use Rattle.env_values.proofs.KeepingHeaps.{plain-kind, keeps_changed}
 use Rattle.env_values.proofs.UnrefusedValues.{set_named-unrefused}
 use Rattle.env_values.proofs.properties.set_named_property.Goals as goal
 
@@ -34,7 +34,8 @@ returns-clause-comes c =
     )
 
 pub returns-clause-keeps : goal.returns-clause-keeps
-returns-clause-keeps c = let values = keeps_changed c.args.store.now c.set_prop.new.self c.in_ok-object.object.id.0 _ (λ v. refl) c.in_ok-set_prop.ensures.set in record {
-  scopes = record { live = more-live c.args.store.now c.set_prop.new.self c.args.scopes.now values.live c.requires; calls = refl };
-  values = values;
-}
+returns-clause-keeps c = let values = keeps_changed c.args.store.now c.set_prop.new.self c.in_ok-object.object.id.0 _
+    (plain-kind c.args.store.now c.in_ok-object.object.id.0 _ (λ v. refl) (λ v. refl) (λ v. refl)) c.in_ok-set_prop.ensures.set in record {
+      scopes = record { live = more-live c.args.store.now c.set_prop.new.self c.args.scopes.now values.live c.requires; calls = refl };
+      values = values;
+    }

@@ -1,7 +1,7 @@
 use Rattle.std.proofs.Common.{◌∙◌, [], ap, sym, subst}
 use Rattle.array_buffers.specs.BufferTables.{buffers_of, StandsForBuffers}
 use Rattle.array_buffers.proofs.BufferMaps.{buffers_of-none}
-use Rattle.array_buffers.proofs.KeptBuffers.{none-kept}
+use Rattle.array_buffers.proofs.Kept.{none-kept}
 use Rattle.array_buffers.proofs.buffers.Buffers.new.Goals as goal
 
 pub returns : goal.returns

@@ -1,7 +1,7 @@
 use Rattle.std.proofs.Common.{◌∙◌, sym, ap, option_map}
 use Rattle.napi_types.specs.parts.Book.{due_where}
-use Rattle.array_buffers.specs.Buffers.{is_this_ticket}
-use Rattle.array_buffers.proofs.BufferTickets.{due-no_ticket}
+use Rattle.napi_types.specs.parts.Buffers.{is_this_ticket}
+use Rattle.array_buffers.proofs.Tickets.{due-no_ticket}
 use Rattle.array_buffers.proofs.row.BufferRow.leave.Goals.{in-Some, in_default}
 use Rattle.array_buffers.proofs.row.BufferRow.leave.Goals as goal
 

@@ -6,5 +6,7 @@ use Rattle.env_registry.proofs.registry.Registry.all_due.Goals as goal
 
 pub invariant_of-self : goal.invariant_of-self
 invariant_of-self c =
-    let s = c.self.inside in
-    (subst (IsKeptRegistry s.wraps.attachments) (sym c.all_due.ensures.due) (kept-moved s.wraps.attachments s.book.book made_due (λ n. true) c.self.invariant))
+    let s = c.self.inside in (
+      subst (IsKeptRegistry s.wraps.attachments) (sym c.all_due.ensures.due) (kept-moved s.wraps.attachments s.book.book made_due (λ n. true) c.self.invariant.0),
+      c.self.invariant.1,
+    )

@@ -7,6 +7,8 @@ use Rattle.env_registry.proofs.registry.Registry.remove_async_hook.Goals as goal
 
 pub invariant_of-self-2 : goal.invariant_of-self-2
 invariant_of-self-2 c =
-    let s = c.self.inside in
-    (subst (IsKeptRegistry s.wraps.attachments) (sym c.withdraw_if.ensures.withdrawn)
-    (kept-dropped s.wraps.attachments s.book.book (registered_only s.book.book (option_map (λ (t : Ticket). t.0) c.in_ok-set.set)) c.self.invariant))
+    let s = c.self.inside in (
+      subst (IsKeptRegistry s.wraps.attachments) (sym c.withdraw_if.ensures.withdrawn)
+          (kept-dropped s.wraps.attachments s.book.book (registered_only s.book.book (option_map (λ (t : Ticket). t.0) c.in_ok-set.set)) c.self.invariant.0),
+      c.self.invariant.1,
+    )

@@ -19,9 +19,11 @@ invariant_of-self-2 c =
     let s = c.self.inside in
     let had = option_map (λ (t : Ticket). t.0) c.ticket.result in
     let t = registered_only s.book.book had in
-    let gone = gone-is s.book.book c.reserve_if.new.book.book c.withdraw_if-dropped.new.book.book had c.reserve_if.ensures.same c.withdraw_if-dropped.ensures.withdrawn in
-    (rw (c.register_if-ticket.ensures.registered, gone)
-    (kept-asked s.wraps.attachments (withdrawn_if t s.book.book) c.args.finalizer (kept-dropped s.wraps.attachments s.book.book t c.self.invariant)))
+    let gone = gone-is s.book.book c.reserve_if.new.book.book c.withdraw_if-dropped.new.book.book had c.reserve_if.ensures.same c.withdraw_if-dropped.ensures.withdrawn in (
+      rw (c.register_if-ticket.ensures.registered, gone)
+          (kept-asked s.wraps.attachments (withdrawn_if t s.book.book) c.args.finalizer (kept-dropped s.wraps.attachments s.book.book t c.self.invariant.0)),
+      c.self.invariant.1,
+    )
 
 pub returns-clause-made : goal.returns-clause-made
 returns-clause-made c =

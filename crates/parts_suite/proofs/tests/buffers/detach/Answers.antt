@@ -1,8 +1,8 @@
 use Rattle.std.proofs.Common.{sym, subst}
 use Rattle.std.specs.List.{All}
-use Rattle.array_buffers.specs.Buffers.{Buffers}
+use Rattle.napi_types.specs.parts.Buffers.{Buffers}
 use Rattle.parts_suite.proofs.BareBuffers.{IsBare, bare-detached}
 use Rattle.parts_suite.proofs.tests.buffers.detach.Goals as goal
 
 pub returns-then-not-detached-clause-bare : goal.returns-then-not-detached-clause-bare
-returns-then-not-detached-clause-bare c = subst (λ (b : Buffers). All IsBare b.buffers) (sym c.detach.ensures) (bare-detached c.args.buffers.now c.args.value.0 c.requires.bare)
+returns-then-not-detached-clause-bare c = subst (λ (b : Buffers). All IsBare b.buffers) (sym c.detach.ensures) (bare-detached c.args.buffers.now.buffers c.args.value.0 c.requires.bare)

@@ -1,7 +1,7 @@
 -- A ticket that falls due, where there is one.
 use Rattle.std.proofs.Common.{◌≡◌, ℕ, suc, false, List, [], ◌∷◌, None, refl, ap}
 use Rattle.napi_types.specs.parts.Book.{Registration, Book, made_due, changed_from, moved, due_where}
-use Rattle.array_buffers.specs.Buffers.{is_this_ticket}
+use Rattle.napi_types.specs.parts.Buffers.{is_this_ticket}
 
 from-none : (n : ℕ) (rs : List Registration) → changed_from n (moved made_due) (λ m. false) rs ≡ rs
 from-none n [] = refl

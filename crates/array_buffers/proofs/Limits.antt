@@ -5,8 +5,8 @@ use Rattle.std.proofs.lemmas.Bool.{or_parts}
 use Rattle.std.proofs.lemmas.List.{length-replicate}
 use Rattle.napi_types.specs.plain.Lists.{found, has}
 use Rattle.napi_types.proofs.plain.Found.{IsRising, same-tells, same-self, turned, found-number, found-with_record, found-filter, found-map}
-use Rattle.array_buffers.specs.declared.row.ViewInfo.{ViewInfo}
-use Rattle.array_buffers.specs.Buffers.{ArrayBuffer, BufferView, Buffers, most_buffer_bytes, most_bytes_together, IsElementSize, buffer_at, view_at, is_viewed, buffer_bytes, buffer_length, total_bytes, live_bytes, view_end, with_buffer, with_view, buffer_changed_at, without_buffer, LiesInBuffer, AreWithinLimits}
+use Rattle.napi_types.specs.declared.view.ViewInfo.{ViewInfo}
+use Rattle.napi_types.specs.parts.Buffers.{ArrayBuffer, BufferView, Buffers, most_buffer_bytes, most_bytes_together, IsElementSize, buffer_at, view_at, is_viewed, buffer_bytes, buffer_length, total_bytes, live_bytes, view_end, with_buffer, with_view, buffer_changed_at, without_buffer, LiesInBuffer, AreWithinLimits}
 use Rattle.array_buffers.proofs.BufferSums.{sum-with_record, sum-without, sum-changed}
 
 -- LENGTHS

@@ -5,8 +5,9 @@ use Rattle.std.proofs.lemmas.List.{get_or_append_left, get_or-append_right, get_
 use Rattle.std.proofs.lemmas.Bool.{ltb-true, cases_lt}
 use Rattle.std.proofs.lemmas.Nat.{from_le_bytes-to_le_bytes_8}
 use Rattle.std.proofs.Math.Seq.{length-take-le}
-use Rattle.array_buffers.specs.declared.row.ViewInfo.{ViewInfo}
-use Rattle.array_buffers.specs.Buffers.{IsElementSize, element_start, view_end, element_in, overwritten, with_element_in}
+use Rattle.napi_types.specs.declared.view.ViewInfo.{ViewInfo}
+use Rattle.napi_types.proofs.parts.PlacedBytes.{how-many, length-over}
+use Rattle.napi_types.specs.parts.Buffers.{IsElementSize, element_start, view_end, element_in, overwritten, with_element_in}
 
 -- PADDED WITH ZEROS
 sum_through-same : (f g : ℕ → ℕ) → ((i : ℕ) → f i ≡ g i) → (k : ℕ) → sum_through f k ≡ sum_through g k
@@ -38,10 +39,6 @@ pub eight-zeros : (n i : ℕ) → slice_index (drop n (replicate 8 0)) i ≡ 0
 eight-zeros n i = get_or-drop n (replicate 8 0) i 0 ∙ zeros-at 8 (n + i)
 
 -- AS MANY BYTES AS AN ELEMENT HAS
-length-low : (i k n : ℕ) → length (bytes_low_first i k n) ≡ k
-length-low i zero n = refl
-length-low i (suc k) n = ap suc (length-low (suc i) k n)
-
 kept-one : (n : ℕ) → from_le_bytes w64 (bytes_low_first 0 1 n) ≡ n % 256
 kept-one n = omega arith
 
@@ -61,11 +58,6 @@ kept size n (inr (inr (inl is))) small = subst (λ k. from_le_bytes w64 (bytes_l
 kept size n (inr (inr (inr is))) small = subst (λ k. from_le_bytes w64 (bytes_low_first 0 k n) ≡ n % 2 ^ (8 * k)) (sym is) (kept-eight n small)
 
 -- OVERWRITTEN
-pub length-overwritten : (start : ℕ) (new bytes : List ℕ) → start + length new ≤ length bytes → length (overwritten start new bytes) ≡ length bytes
-length-overwritten start new bytes within =
-    let front = length-take-le start bytes (omega (arith, within)) in
-    omega (arith, within, front, length-append (take start bytes) (new ++ drop (start + length new) bytes), length-append new (drop (start + length new) bytes), length-drop (start + length new) bytes)
-
 read-overwritten : (start : ℕ) (new bytes : List ℕ) → start ≤ length bytes → take (length new) (drop start (overwritten start new bytes)) ≡ new
 read-overwritten start new bytes within =
     ap (take (length new)) (drop_at (take start bytes) (new ++ drop (start + length new) bytes) start (length-take-le start bytes within))
@@ -80,8 +72,8 @@ length-written about at n bytes within = by (nat_lt at about.length) refl
   where
     by : (c : Bool) → nat_lt at about.length ≡ c → length (cond c (overwritten (element_start about at) (bytes_low_first 0 about.size n) bytes) bytes) ≡ length bytes
     by true is =
-        length-overwritten (element_start about at) (bytes_low_first 0 about.size n) bytes
-        (omega (arith, length-low 0 about.size n, end-within about at (ltb-true at about.length is), within))
+        length-over (element_start about at) (bytes_low_first 0 about.size n) bytes
+        (omega (arith, how-many 0 about.size n, end-within about at (ltb-true at about.length is), within))
     by false is = refl
 
 pub read-written : (about : ViewInfo) (at n : ℕ) (bytes : List ℕ) → IsElementSize about.size → n < 2 ^ 64 → view_end about ≤ length bytes
@@ -95,7 +87,7 @@ read-written about at n bytes size small within = by (nat_lt at about.length) re
         → cond c (Some (from_le_bytes w64 (take about.size (drop (element_start about at) (cond c (overwritten (element_start about at) new bytes) bytes))))) None
         ≡ option_map (λ m. n % 2 ^ (8 * about.size)) (cond c (Some (from_le_bytes w64 (take about.size (drop (element_start about at) bytes)))) None)
     by true is =
-        ap (λ k. Some (from_le_bytes w64 (take k (drop (element_start about at) (overwritten (element_start about at) new bytes))))) (sym (length-low 0 about.size n))
+        ap (λ k. Some (from_le_bytes w64 (take k (drop (element_start about at) (overwritten (element_start about at) new bytes))))) (sym (how-many 0 about.size n))
         ∙ ap (λ bs. Some (from_le_bytes w64 bs)) (read-overwritten (element_start about at) new bytes (omega (arith, end-within about at (ltb-true at about.length is), within)))
         ∙ ap Some (kept about.size n size small)
     by false is = refl

@@ -3,12 +3,18 @@ use Rattle.std.proofs.Common.{◌≡◌, ◌∙◌, ℕ, ◌+◌, ◌-◌, ◌*�
 use Rattle.std.specs.Map.{lookup}
 use Rattle.std.specs.Option.{option_and_then, option_map_or}
 use Rattle.array_buffers.specs.declared.row.BufferRow.{BufferRow}
-use Rattle.array_buffers.specs.declared.row.ViewInfo.{ViewInfo}
-use Rattle.array_buffers.specs.Buffers.{ArrayBuffer, Buffers, no_buffers, most_buffer_bytes, most_bytes_together, IsElementSize, buffer_at, view_at, is_viewed, buffer_bytes, buffer_length, total_bytes, is_detached_buffer, live_bytes, view_end, element_in, element_read, with_element_in, with_buffer, with_view, buffer_changed_at, with_detached, with_element_written, without_buffer, LiesInBuffer, AreWithinLimits}
+use Rattle.napi_types.proofs.plain.Found.{rising-map}
+use Rattle.napi_types.specs.declared.view.ViewInfo.{ViewInfo}
+use Rattle.napi_types.specs.parts.Buffers.{ArrayBuffer, Buffers, no_buffers, most_buffer_bytes, most_bytes_together, IsElementSize, buffer_at, view_at, is_viewed, buffer_bytes, buffer_length, total_bytes, is_detached_buffer, live_bytes, view_end, element_in, element_read, with_element_in, with_buffer, with_view, buffer_changed_at, with_detached, with_element_written, without_buffer, LiesInBuffer, AreWithinLimits}
 use Rattle.array_buffers.specs.BufferTables.{row_bytes, row_length, buffer_row, buffer_row_at, bytes_of_row, row_changed, EndsWithin, buffers_of, StandsForBuffers}
+use Rattle.array_buffers.specs.KeptBuffers.{KeptBuffers, AreBufferMaps}
 use Rattle.array_buffers.proofs.BufferMaps.{Stands, stands-for, is-these, view-in-table, stands-same, stands-made, stands-changed, stands-viewed, stands-gone}
-use Rattle.array_buffers.proofs.ElementBytes.{length-written, read-written}
-use Rattle.array_buffers.proofs.BufferLimits.{limits-shrunk, total-made, limits-made, limits-viewed, total-changed, live-changed, shrinks-changed, total-gone, shrinks-gone}
+use Rattle.array_buffers.proofs.Bytes.{length-written, read-written}
+use Rattle.array_buffers.proofs.Limits.{limits-shrunk, total-made, limits-made, limits-viewed, total-changed, live-changed, shrinks-changed, total-gone, shrinks-gone}
+
+-- what a caller sees is what the tables stand for
+pub seen : {a b : KeptBuffers} → a ≡ b → a.buffers ≡ b.buffers
+seen is = ap (λ (k : KeptBuffers). k.buffers) is
 
 -- before the first
 pub none-kept : StandsForBuffers 0 no_buffers
@@ -45,6 +51,9 @@ module _ (rows : List (ℕ × BufferRow)) (views : List (ℕ × ViewInfo)) (t : 
   -- READ
   pub limits-now : AreWithinLimits b
   limits-now = k.limits
+
+  pub maps-now : AreBufferMaps b
+  maps-now = record { buffers = rising-map (λ r. r.value) b.buffers s.buffers; views = rising-map (λ w. w.value) b.views s.views }
 
   pub total-now : t ≡ total_bytes b
   total-now = k.total
@@ -106,8 +115,10 @@ module _ (rows : List (ℕ × BufferRow)) (views : List (ℕ × ViewInfo)) (t : 
   none-kept-there v at n c here = subst (λ o. IfSome o (λ about. element_read c v at ≡ option_map (λ _. n % 2 ^ (8 * about.size)) (element_read b v at))) (view-now v None here) tt
 
   -- CHANGED
-  pub same-after : (rows' : List (ℕ × BufferRow)) → ((w : ℕ) → buffer_row_at w rows' ≡ buffer_row_at w rows) → StandsForBuffers t (buffers_of rows' views) × (buffers_of rows' views ≡ b)
-  same-after rows' same = both rows' views t b (stands-same rows rows' views [] b s 0 same) k
+  pub same-after : (rows' : List (ℕ × BufferRow)) (views' : List (ℕ × ViewInfo)) → ((w : ℕ) → lookup (nat_eq w) rows' ≡ lookup (nat_eq w) rows)
+      → ((w : ℕ) → lookup (nat_eq w) views' ≡ lookup (nat_eq w) views) → StandsForBuffers t (buffers_of rows' views') × (buffers_of rows' views' ≡ b)
+  same-after rows' views' same those =
+      both rows' views' t b (stands-same rows rows' views views' b s 0 (λ w. ap (option_map (buffer_row w)) (same w)) those) k
 
   pub made-after : (v size : ℕ) (ticket : Option ℕ) (row : BufferRow) (rows' : List (ℕ × BufferRow)) → row_bytes row ≡ Some (replicate size 0) → option_map (λ t. t.0) row.ticket ≡ ticket
       → ((w : ℕ) → buffer_row_at w rows' ≡ cond (nat_eq v w) (Some (buffer_row w row)) (buffer_row_at w rows))
