@@ -141,7 +141,7 @@ regrouped true None row = refl
 regrouped true (Some st) row = refl
 regrouped false o row = refl
 
-timely-row : (e : Environment) (h : HandleId) (kinds : Attachable) (row hung : Option Status)
+pub timely-row : (e : Environment) (h : HandleId) (kinds : Attachable) (row hung : Option Status)
     → option_or (option_or (unless ((is_some (gives e.heap.scopes h.0) && true) && true) status.InvalidArg) (option_or (expects e.heap h (is_accepted kinds) status.ObjectExpected) row)) hung
     ≡ option_or (option_or (target_refusal kinds e.heap h) row) hung
 timely-row e h kinds row hung = ap (λ o. option_or o hung) (regrouped (is_some (gives e.heap.scopes h.0)) (expects e.heap h (is_accepted kinds) status.ObjectExpected) row)

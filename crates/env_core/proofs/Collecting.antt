@@ -10,6 +10,7 @@ use Rattle.napi_types.specs.plain.Lists.{has_number}
 use Rattle.napi_types.specs.plain.Replies.{plain}
 use Rattle.napi_types.specs.parts.Attachments.{Attachments, left_on, is_attached_to}
 use Rattle.napi_types.specs.parts.Book.{Book, due_where}
+use Rattle.napi_types.specs.parts.Buffers.{Buffers, buffers_left}
 use Rattle.napi_types.specs.parts.Frames.{Frame}
 use Rattle.napi_types.specs.parts.Graph.{StoreState, IsSoundStore, IsLive, number_in, graph_of}
 use Rattle.napi_types.specs.parts.Heap.{Heap}
@@ -191,11 +192,12 @@ state-collected s t scopes frames m n rs p ps ids freed alive i r c e =
 pub collected-answers : (e : Environment) (s t : StoreState) (scopes : HandleScopes) (frames : List Frame) (m n : ReferenceMap) (rs : List TsfnRoot) (p : Option ℕ) (ps : Promises) (ids freed alive : List ℕ) (count : ℕ)
     → IsSoundStore s → PromisesAreLive s ps → AreMaps ps → IsState s scopes frames p m rs → AreRoots s scopes m rs p ps ids → alive ≡ reach_from (graph_of s) (map (number_in s) ids) → FreesOthers s t ids freed alive
     → graph_of t ≡ those_of alive (graph_of s) → count ≡ length (all_but alive (graph_of s)) → n ≡ emptied (λ v. has_number v freed) m
-    → (hung : Attachments) (book : Book) (seen_ps : Promises) → hung ≡ left_on (is_freed alive) e.attachments → book ≡ due_where
+    → (hung : Attachments) (book : Book) (seen_ps : Promises) (seen_bs : Buffers) → hung ≡ left_on (is_freed alive) e.attachments → book ≡ due_where
     (is_attached_to (is_freed alive) e.attachments) e.book → seen_ps ≡ promises_left (is_freed alive) (promises_seen s ps)
+    → seen_bs ≡ buffers_left (is_freed alive) e.buffers
     → AnswersInTime (whole_environment e s scopes m rs p ps) call.Collect (plain status.Ok (out.Unsigned count))
-    (record (whole_environment e t scopes n rs p ps) { attachments = hung; book = book; promises = seen_ps })
-collected-answers e s t scopes frames m n rs p ps ids freed alive count sound promised maps i r are c graph counted empty hung book seen_ps left due gone =
+    (record (whole_environment e t scopes n rs p ps) { attachments = hung; book = book; promises = seen_ps; buffers = seen_bs })
+collected-answers e s t scopes frames m n rs p ps ids freed alive count sound promised maps i r are c graph counted empty hung book seen_ps seen_bs left due gone parted =
     let before : Environment = whole_environment e s scopes m rs p ps in
     let k : KeepsRoots freed scopes m rs p = keeps-roots s t scopes m rs p ps ids freed alive r c in
     let reached : alive ≡ reach before =
@@ -215,9 +217,10 @@ collected-answers e s t scopes frames m n rs p ps ids freed alive count sound pr
       book = due_where
           (is_attached_to (is_freed l) e.attachments) e.book;
       promises = promises_left (is_freed l) (promises_seen s ps);
+      buffers = buffers_left (is_freed l) e.buffers;
     } in
     let step : Heap → ReferenceMap → List TsfnRoot → Option ℕ → Environment =
-    λ h l f q. record e { heap = h; references = l; attachments = hung; book = book; tsfn_roots = f; pending = q; promises = seen_ps } in
+    λ h l f q. record e { heap = h; references = l; attachments = hung; book = book; tsfn_roots = f; pending = q; promises = seen_ps; buffers = seen_bs } in
     record {
       fresh = refl;
       reply = ap (λ l. plain status.Ok (out.Unsigned l)) (counted ∙ ap (λ a. length (all_but a (graph_of s))) reached);
@@ -226,12 +229,19 @@ collected-answers e s t scopes frames m n rs p ps ids freed alive count sound pr
           ∙ ap (λ l. step (collected (reach before) before).heap l (tsfn_roots_seen t rs) (pending_seen t p)) references
           ∙ ap (λ f. step (collected (reach before) before).heap (collected (reach before) before).references f (pending_seen t p)) functions
           ∙ ap (λ q. step (collected (reach before) before).heap (collected (reach before) before).references (tsfn_roots_seen s rs) q) pending
-          ∙ ap (λ l. record (collected (reach before) before) { attachments = l; book = book; promises = seen_ps }) left
-          ∙ ap (λ l. record (collected (reach before) before) { attachments = left_on (is_freed alive) e.attachments; book = l; promises = seen_ps }) due
+          ∙ ap (λ l. record (collected (reach before) before) { attachments = l; book = book; promises = seen_ps; buffers = seen_bs }) left
+          ∙ ap (λ l. record (collected (reach before) before) { attachments = left_on (is_freed alive) e.attachments; book = l; promises = seen_ps; buffers = seen_bs }) due
           ∙ ap (λ l. record (collected (reach before) before) {
             attachments = left_on (is_freed alive) e.attachments;
             book = due_where (is_attached_to (is_freed alive) e.attachments) e.book;
             promises = l;
+            buffers = seen_bs;
           }) gone
+          ∙ ap (λ l. record (collected (reach before) before) {
+            attachments = left_on (is_freed alive) e.attachments;
+            book = due_where (is_attached_to (is_freed alive) e.attachments) e.book;
+            promises = promises_left (is_freed alive) (promises_seen s ps);
+            buffers = l;
+          }) parted
           ∙ ap (alive_here (collected (reach before) before)) reached;
     }

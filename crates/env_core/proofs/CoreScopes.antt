@@ -1,6 +1,7 @@
 -- What the calls on scopes answer, and what stays of a state's parts.
-use Rattle.std.proofs.Common.{◌≡◌, ℕ, ◌+◌, Bool, true, false, IsTrue, List, refl, ap, sym, ◌∙◌, Option, Some, None, is_some, option_map, Result, Ok, Err, OnOk, OnErr}
+use Rattle.std.proofs.Common.{◌≡◌, ℕ, ◌+◌, Bool, true, false, IsTrue, List, [], refl, ap, sym, ◌∙◌, Option, Some, None, is_some, IfSome, option_map, Result, Ok, Err, OnOk, OnErr}
 use Rattle.std.specs.Option.{unwrap_or, option_or}
+use Rattle.std.proofs.lemmas.List.Elements.{All-nil}
 use Rattle.napi_types.specs.declared.call.Call.{Call}
 use Rattle.napi_types.specs.declared.call.Call.TheVariants as call
 use Rattle.napi_types.specs.declared.entry.Out.TheVariants as out
@@ -17,7 +18,7 @@ use Rattle.napi_types.specs.parts.Graph.{StoreState, IsLive, number_in}
 use Rattle.napi_types.specs.parts.Heap.{Heap, handle_value}
 use Rattle.napi_types.specs.parts.HeapChanges.{in_scopes}
 use Rattle.napi_types.specs.parts.HeapRefusals.{refusal_in}
-use Rattle.napi_types.specs.parts.References.{ReferenceMap}
+use Rattle.napi_types.specs.parts.References.{Reference, ReferenceMap, no_references}
 use Rattle.napi_types.specs.parts.ScopeCalls.{with_escaped}
 use Rattle.napi_types.specs.parts.ScopeChanges.{open_in, close_in, escape_in}
 use Rattle.napi_types.specs.parts.ScopeRefusals.{closing, escaping}
@@ -27,13 +28,24 @@ use Rattle.napi_types.specs.environment.Calls.{effect, answer_unless}
 use Rattle.napi_types.specs.environment.Environment.{Environment, with_heap, in_heap, TsfnRoot}
 use Rattle.napi_types.specs.environment.Refusals.{group_refusal, refusal_by_state}
 use Rattle.napi_types.proofs.plain.Lists.{length-changed}
-use Rattle.handle_scope.specs.HandleScopes.{HandleScopes, is_fresh_scope, with_open_scope, without_innermost_scope, with_escaped_handle}
+use Rattle.handle_scope.specs.HandleScopes.{HandleScopes, no_scopes, is_fresh_scope, with_open_scope, without_innermost_scope, with_escaped_handle}
 use Rattle.env_values.specs.SeenValues.{heap_of}
 use Rattle.env_values.proofs.Held.{escaped-holds}
 use Rattle.env_values.proofs.HandleValues.{unknown-handle, given-live}
 use Rattle.env_values.proofs.SeenValues.{gives-seen, escaped-seen}
 use Rattle.env_core.specs.State.{IsState, AnswersInTime, opening_call, closing_call}
 use Rattle.env_core.proofs.SeenScopes.{seen-opened, seen-closed, closing-seen, escaping-seen, all-opened, all-closed}
+
+-- a state in which nothing has come yet
+pub state-new : (store : StoreState) → IsState store no_scopes [] None no_references []
+state-new store = record {
+  live = All-nil (λ (p : OpenHandle). IsLive store p.value);
+  frames = refl;
+  calls = refl;
+  pending = tt;
+  referred = All-nil (λ (r : Reference). IfSome r.value (IsLive store));
+  rooted = All-nil (λ (r : TsfnRoot). IsLive store r.value);
+}
 
 -- the environment with these values and scopes
 abbrev pub with_parts : Environment → StoreState → HandleScopes → Environment

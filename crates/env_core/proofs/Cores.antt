@@ -307,6 +307,7 @@ value-need (call.SetInstanceData payload finalizer hint) h = cc
 value-need (call.AddEnvCleanupHook entry argument) h = cc
 value-need (call.AddAsyncCleanupHook entry argument) h = cc
 value-need (call.AddReaction promise entry payload) h = cc
+value-need (call.CreateExternalArraybuffer size payload entry hint) h = cc
 value-need (call.QueueAsyncWork work) h = cc
 value-need (call.CreateThreadsafeFunction f entry most first finalizer context) h = cc
 value-need (call.CallThreadsafeFunction f payload mode) h = cc

@@ -1,5 +1,5 @@
 -- What is attached to values, as some of them are freed.
-use Rattle.std.proofs.Common.{◌≡◌, ◌∙◌, ℕ, ◌==◌, ◌&&◌, ◌||◌, Bool, true, false, not, cond, List, [], ◌∷◌, map, filter, get_or, Option, Some, None, refl, ap, sym}
+use Rattle.std.proofs.Common.{◌≡◌, ◌∙◌, ℕ, ◌==◌, ◌&&◌, ◌||◌, Bool, true, false, not, cond, List, [], ◌∷◌, map, filter, get_or, Option, Some, None, option_map, refl, ap, sym}
 use Rattle.std.specs.List.{All, list_any, filter_map, cons_option}
 use Rattle.std.proofs.lemmas.List.Elements.{All-head, All-tail, All-filter}
 use Rattle.std.proofs.lemmas.List.Folds.{list_any-append}
@@ -9,15 +9,18 @@ use Rattle.napi_types.specs.parts.Attachments.{Wrapped, Tagged, Attached, Attach
 use Rattle.napi_types.specs.parts.Book.{Book, due_where}
 use Rattle.napi_types.specs.parts.Graph.{StoreState, IsSoundStore, IsLive, number_in}
 use Rattle.napi_types.specs.parts.Promises.{Promise, Deferred, Promises, promises_left}
+use Rattle.napi_types.specs.parts.Values.{Value}
 use Rattle.napi_types.specs.environment.Collection.{is_freed}
 use Rattle.napi_types.proofs.plain.Found.{passing, map-rising}
 use Rattle.napi_types.proofs.plain.Lists.{any-map}
 use Rattle.wrap_tag.proofs.Dues.{due_where-same}
 use Rattle.env_registry.specs.KeptRegistry.{AreOnce}
+use Rattle.env_values.specs.SeenValues.{IsPromiseIn}
 use Rattle.env_core.specs.Promising.{seen_promise, seen_deferred, promises_seen, PromisesAreLive}
 use Rattle.env_core.specs.Attaching.{seen_wrap, seen_tag, seen_attached, attachments_seen, AreAttachedToLive}
 use Rattle.env_core.proofs.Attaching.{number-apart}
 use Rattle.env_core.proofs.Collecting.{FreesOthers, stays-live, stays-number}
+use Rattle.env_core.proofs.Promising.{deferreds-live}
 use Rattle.env_core.proofs.Renaming.{any-filter, listed-filter, seen-filter, list_any-seen}
 
 -- TESTS ON LISTS
@@ -128,42 +131,48 @@ module _ (s t : StoreState) (ids freed alive : List ℕ) (c : FreesOthers s t id
     tickets = live-left (λ (w : Attached). w.value) a.tickets i.tickets;
   }
 
--- THE PROMISES
-module _ (s t : StoreState) (ids freed alive : List ℕ) (c : FreesOthers s t ids freed alive) (sound : IsSoundStore s) (p : Promises) (i : PromisesAreLive s p) where
+-- WHAT VALUES WITH A HIDDEN CHILD ARE FOR
+module _ (s t : StoreState) (ids freed alive : List ℕ) (c : FreesOthers s t ids freed alive) where
   freed-not : (id : ℕ) → not (has_number id freed) ≡ true → has_number id freed ≡ false
   freed-not id is = not-true (has_number id freed) is
 
-  stays-told : {A : Type 0} (value : A → ℕ) (xs : List A) → All (λ x. IsLive s (value x)) xs
+  pub stays-told : {A : Type 0} (value : A → ℕ) (xs : List A) → All (λ x. IsLive s (value x)) xs
       → All (λ x. not (is_freed alive (number_in s (value x))) ≡ not (has_number (value x) freed)) xs
   stays-told value xs live = λ k x inside. ap not (sym (c.told (value (get_or xs k x)) (live k x inside)))
 
-  stays-seen : {A : Type 0} (value : A → ℕ) (see new : A → A) (xs : List A) → ((x : A) → number_in t (value x) ≡ number_in s (value x) → new x ≡ see x)
+  pub stays-seen : {A : Type 0} (value : A → ℕ) (see new : A → A) (xs : List A) → ((x : A) → number_in t (value x) ≡ number_in s (value x) → new x ≡ see x)
       → All (λ x. not (has_number (value x) freed) ≡ true → new x ≡ see x) xs
   stays-seen value see new xs same =
       λ k x inside stays. same (get_or xs k x) (stays-number s t ids freed alive c (value (get_or xs k x)) (freed-not (value (get_or xs k x)) stays))
 
+  -- what stays holds of what is not freed
+  pub left-hold : {A : Type 0} (P Q : A → Type 0) (value : A → ℕ) (xs : List A) → ((x : A) → has_number (value x) freed ≡ false → P x → Q x) → All P xs
+      → All Q (filter (λ x. not (has_number (value x) freed)) xs)
+  left-hold {A = A} P Q value xs holds all =
+      let stays : A → Bool = λ x. not (has_number (value x) freed) in
+      λ k x inside. holds (get_or (filter stays xs) k x) (freed-not (value (get_or (filter stays xs) k x)) (passing value stays xs k x inside))
+      (All-filter stays P xs all k x inside)
+
+-- THE PROMISES
+module _ (s t : StoreState) (ids freed alive : List ℕ) (c : FreesOthers s t ids freed alive) (sound : IsSoundStore s) (p : Promises) (i : PromisesAreLive s p) where
   pub promises-left : promises_seen t (promises_left (λ v. has_number v freed) p) ≡ promises_left (is_freed alive) (promises_seen s p)
   promises-left =
       let stays : ℕ → Bool = λ v. not (has_number v freed) in
       let lives : ℕ → Bool = λ n. not (is_freed alive n) in
       let promises = seen-filter (λ (r : Promise). r.value) (number_in s) (seen_promise s) (λ r. refl) (IsLive s) (number-apart s sound) (seen_promise t) stays lives
-      p.promises (stays-told (λ (r : Promise). r.value) p.promises i.promises)
-      (stays-seen (λ (r : Promise). r.value) (seen_promise s) (seen_promise t) p.promises (λ r same. ap (λ n. record r { value = n }) same)) in
+      p.promises (stays-told s t ids freed alive c (λ (r : Promise). r.value) p.promises i.promises)
+      (stays-seen s t ids freed alive c (λ (r : Promise). r.value) (seen_promise s) (seen_promise t) p.promises (λ r same. ap (λ n. record r { value = n }) same)) in
       let deferreds = listed-filter (λ (d : Deferred). d.promise) (number_in s) (seen_deferred s) (λ d. refl) (IsLive s) (number-apart s sound) (seen_deferred t) stays lives
-      p.deferreds (stays-told (λ (d : Deferred). d.promise) p.deferreds i.deferreds)
-      (stays-seen (λ (d : Deferred). d.promise) (seen_deferred s) (seen_deferred t) p.deferreds (λ d same. ap (λ n. record d { promise = n }) same)) in
+      p.deferreds (stays-told s t ids freed alive c (λ (d : Deferred). d.promise) p.deferreds (deferreds-live s p.deferreds i.deferreds))
+      (stays-seen s t ids freed alive c (λ (d : Deferred). d.promise) (seen_deferred s) (seen_deferred t) p.deferreds (λ d same. ap (λ n. record d { promise = n }) same)) in
       let there : Promises = promises_left (is_freed alive) (promises_seen s p) in
       ap (λ l. record { promises = l; deferreds = map (seen_deferred t) (filter (λ d. not (has_number d.promise freed)) p.deferreds); issued = p.issued }) promises
       ∙ ap (λ l. record { promises = there.promises; deferreds = l; issued = p.issued }) deferreds
 
-  left-stay : {A : Type 0} (value : A → ℕ) (xs : List A) → All (λ x. IsLive s (value x)) xs → All (λ x. IsLive t (value x)) (filter (λ x. not (has_number (value x) freed)) xs)
-  left-stay {A = A} value xs live =
-      let stays : A → Bool = λ x. not (has_number (value x) freed) in
-      λ k x inside. stays-live s t ids freed alive c (value (get_or (filter stays xs) k x)) (freed-not (value (get_or (filter stays xs) k x)) (passing value stays xs k x inside))
-      (All-filter stays (λ y. IsLive s (value y)) xs live k x inside)
-
   pub promised-left : PromisesAreLive t (promises_left (λ v. has_number v freed) p)
   promised-left = record {
-    promises = left-stay (λ (r : Promise). r.value) p.promises i.promises;
-    deferreds = left-stay (λ (d : Deferred). d.promise) p.deferreds i.deferreds;
+    promises = left-hold s t ids freed alive c (λ (r : Promise). IsLive s r.value) (λ r. IsLive t r.value) (λ r. r.value) p.promises
+        (λ r stays live. stays-live s t ids freed alive c r.value stays live) i.promises;
+    deferreds = left-hold s t ids freed alive c (λ (d : Deferred). IsPromiseIn s d.promise) (λ d. IsPromiseIn t d.promise) (λ d. d.promise) p.deferreds
+        (λ d stays is. ap (option_map (λ (v : Value). v.body)) (c.frees.others d.promise stays) ∙ is) i.deferreds;
   }

@@ -2,6 +2,8 @@ pub mod AsyncHooking
 pub mod AtOnce
 pub mod Attaching
 pub mod Beginning
+pub mod BufferAnswers
+pub mod Buffering
 pub mod Called
 pub mod Collecting
 pub mod CoreExceptions
@@ -9,6 +11,7 @@ pub mod CoreScopes
 pub mod Cores
 pub mod Ending
 pub mod Freeing
+pub mod FreeingBuffers
 pub mod Knowing
 pub mod Looking
 pub mod PromiseAnswers

@@ -15,17 +15,16 @@ use Rattle.napi_types.specs.plain.Replies.{Answer, accepts, plain}
 use Rattle.napi_types.specs.parts.Attachments.{Attachments}
 use Rattle.napi_types.specs.parts.Book.{new_ticket, ticket_duty, with_registration}
 use Rattle.napi_types.specs.parts.Frames.{caller_of}
-use Rattle.napi_types.specs.parts.Graph.{StoreState, IsSoundStore, IsLive, number_in, graph_of}
+use Rattle.napi_types.specs.parts.Graph.{StoreState, IsSoundStore, IsLive, number_in}
 use Rattle.napi_types.specs.parts.Heap.{Heap, handle_value}
 use Rattle.napi_types.specs.parts.HeapChanges.{with_handle}
 use Rattle.napi_types.specs.parts.Promises.{Promises, Deferred, promise_state, state_now, reactions_of, deferred_promise, with_promise, with_settled, with_reaction, reactions_settled}
 use Rattle.napi_types.specs.parts.References.{ReferenceMap}
 use Rattle.napi_types.specs.parts.Scopes.{gives}
-use Rattle.napi_types.specs.parts.Values.{Value, undefined_value}
+use Rattle.napi_types.specs.parts.Values.{undefined_value}
 use Rattle.napi_types.specs.environment.Calls.{effect}
 use Rattle.napi_types.specs.environment.Environment.{Environment, TsfnRoot, in_heap}
 use Rattle.napi_types.specs.environment.PromiseCalls.{with_new_promise, with_promises, with_settler, settling, resolved, rejected, reaction_of, reaction_value, reaction_told}
-use Rattle.napi_types.specs.environment.Promised.{has_linked, IsPromised}
 use Rattle.napi_types.specs.environment.Refusals.{refusal_by_state}
 use Rattle.std.proofs.lemmas.List.{length-map}
 use Rattle.std.proofs.lemmas.Option.{same_Some}
@@ -33,7 +32,7 @@ use Rattle.napi_types.proofs.plain.Found.{found-All, same-tells}
 use Rattle.napi_types.proofs.plain.Lists.{length-changed}
 use Rattle.deferred.specs.KeptPromises.{AreMaps}
 use Rattle.handle_scope.specs.HandleScopes.{HandleScopes}
-use Rattle.env_values.specs.SeenValues.{seen_frame, heap_of, KeepsValues}
+use Rattle.env_values.specs.SeenValues.{seen_frame, heap_of, IsPromiseIn, KeepsValues}
 use Rattle.env_values.proofs.Giving.{given-answer}
 use Rattle.env_values.proofs.HandleValues.{unknown-handle}
 use Rattle.env_core.specs.Attaching.{AreAttachedToLive}
@@ -42,7 +41,7 @@ use Rattle.env_core.specs.Referring.{RefersToLive}
 use Rattle.env_core.specs.State.{AnswersInTime}
 use Rattle.env_core.specs.TsfnRooting.{RootsAreLive}
 use Rattle.env_core.proofs.CoreScopes.{known-handle}
-use Rattle.env_core.proofs.Promising.{promised-kept, promises-kept, promise-absent, seen-deferred, seen-with_promise, seen-with_settled, seen-with_reaction, seen-state, seen-reactions, promised-settled}
+use Rattle.env_core.proofs.Promising.{promise-in-live, promised-kept, promises-kept, promise-absent, seen-deferred, seen-with_promise, seen-with_settled, seen-with_reaction, seen-state, seen-reactions, promised-settled}
 use Rattle.env_core.proofs.Referring.{refused-timely, replied-timely, accepted-timely}
 use Rattle.env_core.proofs.ValueAnswers.{seen_by, same-parts}
 
@@ -87,16 +86,12 @@ deferred-holds P p n v is all = by (found (λ d. d.number) n p.deferreds) refl i
         let same : d.promise ≡ v = same_Some d.promise v is in
         subst P same (found-All (λ (x : Deferred). x.number) (λ x. P x.promise) n p.deferreds d all at)
 
--- the promise of a deferred that is not settled is live, and one that may have a hidden child
-pub deferred-live : (s : StoreState) (ps : Promises) → PromisesAreLive s ps → (n v : ℕ) → deferred_promise ps n ≡ Some v → IsLive s v
-deferred-live s ps promised n v is = deferred-holds (IsLive s) ps n v is promised.deferreds
+-- the promise of a deferred that is not settled is a value that is a promise, and so it is live
+pub deferred-promise : (s : StoreState) (ps : Promises) → PromisesAreLive s ps → (n v : ℕ) → deferred_promise ps n ≡ Some v → IsPromiseIn s v
+deferred-promise s ps promised n v is = deferred-holds (IsPromiseIn s) ps n v is promised.deferreds
 
-pub deferred-linked : (s : StoreState) (ps : Promises) (e : Environment) → e.heap.values ≡ graph_of s → e.promises ≡ promises_seen s ps → IsPromised e
-    → (n v : ℕ) → deferred_promise ps n ≡ Some v → has_linked (number_in s v) (graph_of s) ≡ true
-deferred-linked s ps e values seen fits n v is =
-    subst (λ (vs : List Value). has_linked (number_in s v) vs ≡ true) values
-    (deferred-holds (λ k. has_linked k e.heap.values ≡ true) e.promises n (number_in s v)
-    (ap (λ (p : Promises). deferred_promise p n) seen ∙ seen-deferred s ps n ∙ ap (option_map (number_in s)) is) fits.linked)
+deferred-live : (s : StoreState) (ps : Promises) → PromisesAreLive s ps → (n v : ℕ) → deferred_promise ps n ≡ Some v → IsLive s v
+deferred-live s ps promised n v is = promise-in-live s v (deferred-promise s ps promised n v is)
 
 -- a call that settles a deferred
 pub record Settles (c : Call) (d : DeferredId) (h : HandleId) (state : ℕ) : Type 0 where

@@ -6,9 +6,11 @@ use Rattle.std.proofs.lemmas.List.{map-append}
 use Rattle.std.proofs.lemmas.List.Folds.{list_any-append}
 use Rattle.std.proofs.lemmas.List.Elements.{All-head, All-tail, All-nil, All-filter, All-map, All-append}
 use Rattle.std.proofs.lemmas.Bool.{or_from}
+use Rattle.napi_types.specs.declared.body.Body.TheVariants as body
 use Rattle.napi_types.specs.declared.entry.Duty.{Duty}
 use Rattle.napi_types.specs.declared.entry.Duty.TheVariants as duty
 use Rattle.napi_types.specs.plain.Lists.{found, has, has_number, as_map, with_record, with_number, HaveSameNumbers, is_empty}
+use Rattle.napi_types.specs.parts.Bodies.{promise_tag}
 use Rattle.napi_types.specs.parts.Graph.{StoreState, IsSoundStore, IsLive, value_of, number_in}
 use Rattle.napi_types.specs.parts.Promises.{Promise, Deferred, Promises, no_promises, promise_at, promise_state, reactions_of, deferred_promise, promise_roots, with_promise, with_settled, with_reaction}
 use Rattle.napi_types.specs.parts.Values.{Value}
@@ -16,20 +18,33 @@ use Rattle.napi_types.specs.environment.Ends.{reaction_ended}
 use Rattle.napi_types.proofs.plain.Found.{same-tells, found-same, found-as_map, found-map, rising-as_map, rising-changed, map-rising}
 use Rattle.napi_types.proofs.plain.Maps.{All-with_record, map-filter, map-with_record}
 use Rattle.deferred.specs.KeptPromises.{AreMaps}
-use Rattle.env_values.specs.SeenValues.{KeepsValues}
+use Rattle.env_values.specs.SeenValues.{IsPromiseIn, KeepsValues}
 use Rattle.env_core.specs.Promising.{seen_promise, seen_deferred, promises_seen, PromisesAreLive}
 use Rattle.env_core.proofs.Attaching.{number-apart, listed-kept}
 use Rattle.env_core.proofs.Renaming.{found-seen, any-filter, same-renamed, seen-with_record, listed-filter, list_any-seen}
 
 -- WHAT HOLDS
-pub promised-new : (s : StoreState) → PromisesAreLive s no_promises
-promised-new s = record { promises = All-nil (λ (r : Promise). IsLive s r.value); deferreds = All-nil (λ (d : Deferred). IsLive s d.promise) }
+-- a value that is a promise is live
+pub promise-in-live : (s : StoreState) (id : ℕ) → IsPromiseIn s id → IsLive s id
+promise-in-live s id is = by (value_of s id) is
+  where
+    by : (o : Option Value) → option_map (λ (v : Value). v.body) o ≡ Some (body.Linked promise_tag None) → IsSome o
+    by None at = cc
+    by (Some v) at = refl
 
-pub promised-made : (s : StoreState) (p : Promises) (v n : ℕ) → PromisesAreLive s p → IsLive s v → PromisesAreLive s (with_promise v n p)
-promised-made s p v n i live = record {
-  promises = All-with_record (λ (r : Promise). r.value) (record { value = v; state = 0; reactions = [] }) (λ r. IsLive s r.value) p.promises live i.promises;
-  deferreds = All-with_record (λ (d : Deferred). d.number) (record { number = n; promise = v }) (λ d. IsLive s d.promise)
-      (filter (λ d. not (d.promise == v)) p.deferreds) live (All-filter (λ (d : Deferred). not (d.promise == v)) (λ d. IsLive s d.promise) p.deferreds i.deferreds);
+-- so is the promise of each deferred
+pub deferreds-live : (s : StoreState) (ds : List Deferred) → All (λ d. IsPromiseIn s d.promise) ds → All (λ d. IsLive s d.promise) ds
+deferreds-live s ds all = λ k d inside. promise-in-live s (get_or ds k d).promise (all k d inside)
+
+pub promised-new : (s : StoreState) → PromisesAreLive s no_promises
+promised-new s = record { promises = All-nil (λ (r : Promise). IsLive s r.value); deferreds = All-nil (λ (d : Deferred). IsPromiseIn s d.promise) }
+
+pub promised-made : (s : StoreState) (p : Promises) (v n : ℕ) → PromisesAreLive s p → IsPromiseIn s v → PromisesAreLive s (with_promise v n p)
+promised-made s p v n i is = record {
+  promises = All-with_record (λ (r : Promise). r.value) (record { value = v; state = 0; reactions = [] }) (λ r. IsLive s r.value) p.promises (promise-in-live s v is)
+      i.promises;
+  deferreds = All-with_record (λ (d : Deferred). d.number) (record { number = n; promise = v }) (λ d. IsPromiseIn s d.promise)
+      (filter (λ d. not (d.promise == v)) p.deferreds) is (All-filter (λ (d : Deferred). not (d.promise == v)) (λ d. IsPromiseIn s d.promise) p.deferreds i.deferreds);
 }
 
 -- a change of promises that keeps whose each is
@@ -63,7 +78,7 @@ reacts ticket r = record r { reactions = r.reactions ++ ticket ∷ [] }
 pub promised-settled : (s : StoreState) (p : Promises) (n v state : ℕ) → PromisesAreLive s p → PromisesAreLive s (with_settled n v state p)
 promised-settled s p n v state i = record {
   promises = promised-changed s (settles state) (λ r. refl) v p.promises i.promises;
-  deferreds = All-filter (λ (d : Deferred). not (d.number == n)) (λ d. IsLive s d.promise) p.deferreds i.deferreds;
+  deferreds = All-filter (λ (d : Deferred). not (d.number == n)) (λ d. IsPromiseIn s d.promise) p.deferreds i.deferreds;
 }
 
 pub promised-reacting : (s : StoreState) (p : Promises) (v ticket : ℕ) → PromisesAreLive s p → PromisesAreLive s (with_reaction v ticket p)
@@ -82,7 +97,9 @@ module _ (s t : StoreState) (kept : KeepsValues s t) where
   pub promised-kept : (p : Promises) → PromisesAreLive s p → PromisesAreLive t p
   promised-kept p i = record {
     promises = λ k r inside. kept.live (get_or p.promises k r).value (i.promises k r inside);
-    deferreds = λ k d inside. kept.live (get_or p.deferreds k d).promise (i.deferreds k d inside);
+    deferreds = λ k d inside.
+        let v : ℕ = (get_or p.deferreds k d).promise in
+        kept.bodies v (promise-in-live s v (i.deferreds k d inside)) ∙ i.deferreds k d inside;
   }
 
   pub promises-kept : (p : Promises) → PromisesAreLive s p → promises_seen t p ≡ promises_seen s p
@@ -90,7 +107,8 @@ module _ (s t : StoreState) (kept : KeepsValues s t) where
       let promises : map (seen_promise t) p.promises ≡ map (seen_promise s) p.promises =
       listed-kept s t kept (λ (r : Promise). r.value) (seen_promise s) (seen_promise t) p.promises (λ r same. ap (λ n. record r { value = n }) same) i.promises in
       let deferreds : map (seen_deferred t) p.deferreds ≡ map (seen_deferred s) p.deferreds =
-      listed-kept s t kept (λ (d : Deferred). d.promise) (seen_deferred s) (seen_deferred t) p.deferreds (λ d same. ap (λ n. record d { promise = n }) same) i.deferreds in
+      listed-kept s t kept (λ (d : Deferred). d.promise) (seen_deferred s) (seen_deferred t) p.deferreds (λ d same. ap (λ n. record d { promise = n }) same)
+      (deferreds-live s p.deferreds i.deferreds) in
       ap (λ l. record { promises = as_map (λ (r : Promise). r.value) l; deferreds = map (seen_deferred t) p.deferreds; issued = p.issued }) promises
       ∙ ap (λ l. record { promises = as_map (λ (r : Promise). r.value) (map (seen_promise s) p.promises); deferreds = l; issued = p.issued }) deferreds
 
@@ -152,7 +170,7 @@ module _ (s : StoreState) (sound : IsSoundStore s) where
       let deferreds : map (seen_deferred s) (with_record (λ d. d.number) made left)
       ≡ with_record (λ d. d.number) (seen_deferred s made) (filter (λ d. not (d.promise == number_in s v)) (map (seen_deferred s) p.deferreds)) =
       map-with_record (λ (d : Deferred). d.number) (seen_deferred s) (λ d. refl) made left
-      ∙ ap (with_record (λ d. d.number) (seen_deferred s made)) (unlike v live p.deferreds i.deferreds) in
+      ∙ ap (with_record (λ d. d.number) (seen_deferred s made)) (unlike v live p.deferreds (deferreds-live s p.deferreds i.deferreds)) in
       ap (λ l. record { promises = l; deferreds = map (seen_deferred s) (with_record (λ d. d.number) made left); issued = with_number n p.issued }) promises
       ∙ ap (λ l. record {
         promises = with_record (λ (r : Promise). r.value) (record { value = number_in s v; state = 0; reactions = [] }) (as_map (λ r. r.value) (map (seen_promise s) p.promises));
@@ -267,7 +285,7 @@ module _ (s : StoreState) (sound : IsSoundStore s) (p : Promises) (i : PromisesA
 pub promise_roots-live : (s : StoreState) (p : Promises) → PromisesAreLive s p → All (IsLive s) (promise_roots p)
 promise_roots-live s p i =
     All-append (IsLive s) (map (λ (d : Deferred). d.promise) p.deferreds) (map (λ (r : Promise). r.value) (filter keeps_reaction p.promises))
-    (All-map (IsLive s) (λ (d : Deferred). d.promise) p.deferreds i.deferreds)
+    (All-map (IsLive s) (λ (d : Deferred). d.promise) p.deferreds (deferreds-live s p.deferreds i.deferreds))
     (All-map (IsLive s) (λ (r : Promise). r.value) (filter keeps_reaction p.promises) (All-filter keeps_reaction (λ r. IsLive s r.value) p.promises i.promises))
 
 -- A NEW PROMISE

@@ -37,14 +37,14 @@ use Rattle.handle_scope.specs.HandleScopes.{HandleScopes}
 use Rattle.env_registry.specs.KeptRegistry.{AreOnce}
 use Rattle.env_registry.proofs.Withdrawn.{ticket-withdrawn}
 use Rattle.env_registry.specs.Registering.{ticket_for, with_registration_if, duty_if, withdrawn_if}
-use Rattle.env_values.specs.SeenValues.{seen_frame, heap_of}
+use Rattle.env_values.specs.SeenValues.{seen_frame, heap_of, KeepsValues}
 use Rattle.env_core.specs.Attaching.{seen_wrap, seen_attached, attachments_seen, AreAttachedToLive, target_refusal}
 use Rattle.env_core.specs.Beginning.{AreBegun}
 use Rattle.env_core.specs.declared.handles.Attachable.TheVariants as takes
 use Rattle.napi_reference.proofs.KeepingReferences.{AllValues-with_reference}
 use Rattle.env_core.specs.Referring.{references_seen, RefersToLive, RefersIf}
 use Rattle.env_core.specs.State.{AnswersInTime}
-use Rattle.env_core.proofs.Attaching.{seen-wrap_of, seen-with_wrap, seen-without_wrap, seen-payload, wrap-free, target-taken, timely-finalizer}
+use Rattle.env_core.proofs.Attaching.{attachments-kept, seen-wrap_of, seen-with_wrap, seen-without_wrap, seen-payload, wrap-free, target-taken, timely-finalizer}
 use Rattle.env_core.proofs.Beginning.{begun-registered, begun-still-moved}
 use Rattle.env_core.proofs.Referring.{replied-timely, seen-with}
 
@@ -244,6 +244,13 @@ pub given-frames : (s t : StoreState) (old new : HandleScopes) (b : Body) (o : O
 given-frames s t old new b o gives =
     sym (length-map new.frames (seen_frame t)) ∙ sym (ap (λ (x : Answer Heap). length x.after.scopes) gives)
     ∙ length-changed (hold_in (record { handle = old.handles + 1; value = s.made + 1 })) (map (seen_frame s) old.frames) ∙ length-map old.frames (seen_frame s)
+
+-- a finalizer is attached to a new value
+pub attached-new-value : (s t : StoreState) → KeepsValues s t → (a : Attachments) → AreAttachedToLive s a → (v n : ℕ) → number_in t v ≡ s.made + 1
+    → attachments_seen t (with_attached v n a) ≡ with_attached (s.made + 1) n (attachments_seen s a)
+attached-new-value s t kept a i v n number =
+    seen-attached_if t a v (Some n) ∙ ap (λ k. attached_if k (Some n) (attachments_seen t a)) number
+    ∙ ap (attached_if (s.made + 1) (Some n)) (attachments-kept s t kept a i)
 
 -- the call that creates one gives its handle, in the heap that it leaves
 pub external-answers : (e : Environment) (s t : StoreState) (a : Attachments) (book : Book) (payload hint : ℕ) (entry : Option ℕ) (o : Out) (heap : Heap) (v : ℕ) (f : Option Registration)

@@ -1,5 +1,5 @@
 -- What shared calls and the other events of the history keep of a core.
-use Rattle.std.proofs.Common.{◌≡◌, ℕ, ◌+◌, ◌*◌, ◌-◌, ◌==◌, not, [], length, Option, Some, None, refl, sym, ap, subst, ◌∙◌, arith}
+use Rattle.std.proofs.Common.{◌≡◌, ℕ, ◌+◌, ◌*◌, ◌-◌, ◌==◌, ◌&&◌, true, false, not, [], length, Option, Some, None, is_none, IfSome, refl, sym, ap, subst, ◌∙◌, arith}
 use Rattle.std.proofs.lemmas.List.Sums.{length-filter, count_by-le-length}
 use Rattle.napi_types.specs.declared.call.Call.{Call}
 use Rattle.napi_types.specs.declared.call.Call.TheVariants as call
@@ -8,6 +8,7 @@ use Rattle.napi_types.specs.declared.entry.Out.TheVariants as out
 use Rattle.napi_types.specs.declared.entry.Reply.{Reply}
 use Rattle.napi_types.specs.declared.entry.SharedCall.{SharedCall}
 use Rattle.napi_types.specs.declared.status.Status.{Status}
+use Rattle.napi_types.specs.plain.Replies.{plain}
 use Rattle.napi_types.specs.plain.Room.{one_if}
 use Rattle.napi_types.specs.parts.Book.{owed_tickets}
 use Rattle.napi_types.specs.environment.Changes.{with_noted_status, with_none_waiting}
@@ -21,7 +22,7 @@ use Rattle.napi_types.proofs.environment.HookedSteps.{unchanged, hooked-abandone
 use Rattle.napi_types.proofs.environment.Promised.{still-promised}
 use Rattle.env_core.specs.Core.{IsCore}
 use Rattle.env_core.specs.Journal.{JournalSeen}
-use Rattle.env_core.specs.Sharing.{MayAwait}
+use Rattle.env_core.specs.Sharing.{names_function, wants_root, is_rooting, MayAwait, IsAnswer}
 
 -- AWAITING
 -- while no frame stands nothing is awaited
@@ -32,6 +33,18 @@ alone-idle e room (Some s) may alone = absurd (may.standing alone)
 -- and where nothing is awaited, anything may be
 pub idle-may : (e : Environment) (room : ℕ) (a : Option SharedCall) → a ≡ None → MayAwait e room a
 idle-may e room a idle = subst (λ o. MayAwait e room o) (sym idle) tt
+
+-- where the answer to a call makes a root, the call wanted one
+pub rooting-wanted : (s : SharedCall) (r : Reply) → IsAnswer s r → is_rooting s.call r.out ≡ true → wants_root s ≡ true
+rooting-wanted s r answer rooting = by s.refused refl answer
+  where
+    named : (o : Out) → is_rooting s.call o ≡ true → names_function s.call ≡ true
+    named (out.Function n) is = is
+    named _ is = cc
+
+    by : (o : Option Status) → s.refused ≡ o → IfSome o (λ t. r ≡ plain t out.Nothing) → wants_root s ≡ true
+    by None at answer = ap (λ o. names_function s.call && is_none o) at ∙ ap (λ b. b && true) (named r.out rooting)
+    by (Some t) at answer = let no : true ≡ false = sym rooting ∙ ap (λ (x : Reply). is_rooting s.call x.out) answer in cc
 
 -- EVENTS OF THE HISTORY
 -- what they keep of what a core counts: they leave no entry in the journal, and no place of it

@@ -110,6 +110,11 @@ value-frames texts addon c store after_store old new result leaves stays =
     seen (Ok r) leaves stays = ap (λ (h : Heap). length h.scopes) leaves ∙ (heap_answer-keeps texts addon (heap_of store old) c 0).depth
     seen (Err x) leaves stays = ap (λ (h : Heap). length h.scopes) stays
 
+-- where the heap is seen as it was, as many frames have their scopes
+pub same-frames : (s t : StoreState) (old new : HandleScopes) → heap_of t new ≡ heap_of s old → length new.frames ≡ length old.frames
+same-frames s t old new heap =
+    sym (length-map new.frames (seen_frame t)) ∙ ap (λ (h : Heap). length h.scopes) heap ∙ length-map old.frames (seen_frame s)
+
 -- THE PENDING EXCEPTION
 -- it stays live, under its number
 pub pending-live : (s t : StoreState) (p : Option ℕ) → KeepsValues s t → IfSome p (IsLive s) → IfSome p (IsLive t)

@@ -1,5 +1,6 @@
 pub mod Attaching
 pub mod Beginning
+pub mod Buffering
 pub mod Core
 pub mod CoreSteps
 pub mod Journal

@@ -12,6 +12,7 @@ use Rattle.napi_types.specs.parts.Graph.{StoreState, IsLive, number_in, graph_of
 use Rattle.napi_types.specs.parts.Promises.{Promise, Deferred, Promises, is_reaction_of, reaction_promise}
 use Rattle.napi_types.specs.parts.Values.{link_of}
 use Rattle.napi_types.specs.environment.PromiseCalls.{resolved}
+use Rattle.env_values.specs.SeenValues.{IsPromiseIn}
 
 -- a promise has the creation number of its value, where the crate below has the store's number, and so has the promise of a deferred
 abbrev pub seen_promise : StoreState → Promise → Promise
@@ -28,10 +29,10 @@ promises_seen store p = record {
   issued = p.issued;
 }
 
--- each promise is a live value, and so is that of each deferred
+-- each promise is a live value, and that of each deferred is a value that is a promise
 pub record PromisesAreLive (store : StoreState) (p : Promises) : Type 0 where
   pub promises : All (λ r. IsLive store r.value) p.promises
-  pub deferreds : All (λ d. IsLive store d.promise) p.deferreds
+  pub deferreds : All (λ d. IsPromiseIn store d.promise) p.deferreds
 
 -- the call that settles a deferred with this state, resolved or rejected
 abbrev pub settling_call : ℕ → DeferredId → HandleId → Call

@@ -11,6 +11,7 @@ mod journal;
 mod roots;
 mod state;
 mod tsfn_roots;
+mod views;
 mod weak_references;
 
 pub use env::{EnvCore, Stepped};

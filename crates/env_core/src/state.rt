@@ -17,13 +17,14 @@ ghost use Rattle.napi_types.specs.environment.Hooked.{IsHooked};
 ghost use Rattle.napi_types.specs.environment.Promised.{IsPromised};
 ghost use Rattle.napi_types.specs.environment.Moments.{guard_status, is_tearing, refusal_by_moment};
 ghost use Rattle.napi_types.specs.environment.Refusals.{refusal_by_state, refusal_before_depth};
-ghost use Rattle.napi_types.specs.environment.Registering.{finalizer_if};
+ghost use Rattle.napi_types.specs.environment.Registering.{finalizer_of, finalizer_if};
 ghost use Rattle.env_core.specs.Standing.{machine_frame};
 ghost use Rattle.env_registry.specs.Registering.{finalizer_registration};
 ghost use Rattle.env_core.specs.Core.{next_init};
 ghost use Rattle.env_core.specs.State.{HasNumbersFor, Calls, Answers, AnswersInTime, FindsNoMemory, opening_call, closing_call};
 
 mod attachments;
+mod buffers;
 mod calling;
 mod collection;
 mod ends;
@@ -41,7 +42,7 @@ use crate::frames::{Frames, StandingFrame};
 use crate::tsfn_roots::TsfnRoots;
 pub use calling::Called;
 use env_registry::{Finalizer, Registry};
-use env_values::value_step;
+use env_values::{invariant, value_step};
 use exception_state::Exceptions;
 use handle_scope::{ScopeKind, Scopes};
 use napi_reference::Refs;
@@ -85,7 +86,8 @@ impl Model for State {
     ghost use Rattle.env_core.specs.Beginning.{AreBegun};
     ghost use Rattle.env_core.specs.TsfnRooting.{tsfn_roots_seen};
     ghost use Rattle.env_core.specs.Referring.{references_seen};
-    ghost use Rattle.env_core.specs.Promising.{promises_seen, PromisesAreLive};
+    ghost use Rattle.env_core.specs.Buffering.{buffers_seen, LinkedAreLive};
+    ghost use Rattle.env_core.specs.Promising.{promises_seen};
     ghost use Rattle.env_core.specs.State.{pending_seen, IsState};
 
     ghost view = { λ state. record {
@@ -105,6 +107,7 @@ impl Model for State {
       async_hooks = state.registry.parts.async_hooks;
       instances = state.registry.parts.instances;
       promises = promises_seen state.store state.registry.parts.promises;
+      buffers = buffers_seen state.store state.registry.parts.buffers;
       tsfn_roots = tsfn_roots_seen state.store state.tsfn_roots;
       pending = pending_seen state.store state.exceptions.pending;
       last = state.exceptions.last;
@@ -113,7 +116,7 @@ impl Model for State {
     ghost invariant = { λ state. IsState state.store state.scopes state.frames state.exceptions.pending (map_of state.references) state.tsfn_roots
         × AreAttachedToLive state.store state.registry.parts.attachments
         × AreBegun state.frames state.registry.parts.book
-        × PromisesAreLive state.store state.registry.parts.promises };
+        × LinkedAreLive state.store state.registry.parts.promises state.registry.parts.buffers };
 }
 
 impl State {
@@ -336,6 +339,7 @@ impl State {
             CallGroup::OnInstances => self.answer_on_instances(call),
             CallGroup::OnHooks => self.answer_on_hooks(call),
             CallGroup::OnPromises => self.answer_on_promises(call),
+            CallGroup::OnBuffers => self.answer_on_buffers(call),
             CallGroup::OnVersion => Ok(self.answer_on_version(call)),
             CallGroup::OnCollection => self.answer_on_collection(call),
             CallGroup::OnExit => Ok(self.answer_on_exit(call)),
@@ -404,6 +408,8 @@ impl State {
         ensures stopped { OnErr result (FindsNoMemory self.old call.now (refusal_by_state self.old call.now) self.new) }
     {
         let addon = self.caller();
+        // What a view names is live, so it is seen as it was.
+        invariant(&self.store);
         value_step(
             self.alloc,
             &mut self.store,
@@ -424,16 +430,23 @@ impl State {
         }
     }
 
-    /// A finalizer as a call registers it, where the call names an entry: the entry is one of the addon that calls.
+    /// A finalizer as a call registers it: the entry is one of the addon that calls.
+    fn finalizer(&self, payload: u64, entry: u32, hint: u64) -> Finalizer
+        ensures { finalizer_registration result ≡ finalizer_of self.now payload entry hint }
+    {
+        Finalizer {
+            addon: self.caller(),
+            entry,
+            payload,
+            hint,
+        }
+    }
+
+    /// The same where the call names an entry.
     fn finalizer_if(&self, payload: u64, entry: Option<u32>, hint: u64) -> Option<Finalizer>
         ensures { option_map finalizer_registration result ≡ finalizer_if self.now payload entry hint }
     {
-        Some(Finalizer {
-            addon: self.caller(),
-            entry: entry?,
-            payload,
-            hint,
-        })
+        Some(self.finalizer(payload, entry?, hint))
     }
 
     /// A scope of this kind and a fresh number opens inside the innermost one.

@@ -20,7 +20,7 @@ ghost use Rattle.env_core.specs.State.{CallsFunction, EntersCall, BeginsScopes, 
 use super::State;
 use crate::frames::StandingFrame;
 use crate::handles::{LookedUp, body_of, look_up};
-use env_values::thrown_value;
+use env_values::{invariant, thrown_value};
 use handle_scope::Scopes;
 use napi_types::{
     Args, Body, Call, Cause, HandleId, MOST_FRAMES, NoMemory, Out, Reply, Status, Target, TextNo,
@@ -137,6 +137,8 @@ impl State {
         ensures after { OnOk result (self.new ≡ with_depth_error self.old) }
         ensures err { OnErr result (self.new ≡ self.old) }
     {
+        // What a view names is live, so it is seen as it was.
+        invariant(&self.store);
         let error = thrown_value(&mut self.store, None, DEPTH_TEXT)?;
         self.exceptions.set(error);
         Ok(Reply::plain(Status::PendingException, Out::Nothing))

@@ -46,6 +46,8 @@ impl State {
         invariant(&self.store);
         self.registry.invariant();
         let freed = trace_collect::collect(self.alloc, &mut self.store, &roots)?;
+        // A view that is left has its buffer, since what a value names is live.
+        invariant(&self.store);
         self.references.empty_of(&freed);
         self.registry.gone_all(&freed);
         Ok(Reply::plain(Status::Ok, Out::Unsigned(freed.len() as u64)))

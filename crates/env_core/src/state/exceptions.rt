@@ -8,7 +8,7 @@ ghost use Rattle.napi_types.specs.environment.Refusals.{refusal_by_state};
 ghost use Rattle.env_core.specs.State.{AnswersInTime, FindsNoMemory, HasNumbersFor};
 
 use super::State;
-use env_values::{or_undefined, thrown_value};
+use env_values::{invariant, or_undefined, thrown_value};
 use napi_types::{Call, CallGroup, HandleId, NoMemory, Out, Reply, Status, TextNo};
 
 impl State {
@@ -58,6 +58,8 @@ impl State {
         if !self.knows(code, message) {
             return Ok(Reply::plain(Status::InvalidArg, Out::Nothing));
         }
+        // What a view names is live, so it is seen as it was.
+        invariant(&self.store);
         let error = thrown_value(&mut self.store, code, message)?;
         self.exceptions.set(error);
         Ok(Reply::plain(Status::Ok, Out::Nothing))

@@ -7,7 +7,7 @@ ghost use Rattle.napi_types.specs.environment.Refusals.{refusal_by_state};
 ghost use Rattle.env_core.specs.State.{AnswersInTime, FindsNoMemory, HasNumbersFor};
 
 use super::State;
-use env_values::make_held;
+use env_values::{invariant, make_held};
 use napi_types::{Body, Call, CallGroup, NoMemory, Reply, Status};
 
 impl State {
@@ -48,6 +48,8 @@ impl State {
         let asked = self.finalizer_if(payload, finalizer, hint);
         self.registry.reserve_finalizer(asked)?;
         let body = Body::External(payload);
+        // What a view names is live, so it is seen as it was.
+        invariant(&self.store);
         let (value, out) = make_held(&mut self.store, &mut self.scopes, body)?;
         let made = self.registry.attach(value, asked);
         Ok(Reply {

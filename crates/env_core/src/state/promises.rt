@@ -13,7 +13,7 @@ ghost use Rattle.env_core.specs.State.{AnswersInTime, FindsNoMemory, HasNumbersF
 use super::State;
 use crate::frames::Frames;
 use env_registry::Registry;
-use env_values::{invariant, make_promise, settle_with};
+use env_values::{PROMISE_TAG, invariant, make_linked, settle_with};
 use napi_types::{
     Call, CallGroup, DeferredId, Duty, HandleId, NoMemory, Out, Reply, Status, ValueId,
 };
@@ -67,7 +67,7 @@ impl State {
         self.registry.reserve_promise()?;
         // A promise is of a value that was there before, so the new one is none yet.
         invariant(&self.store);
-        let (promise, handle) = make_promise(&mut self.store, &mut self.scopes)?;
+        let (promise, handle) = make_linked(&mut self.store, &mut self.scopes, PROMISE_TAG, None)?;
         invariant(&self.store);
         self.registry.invariant();
         let deferred = self.registry.make_promise(promise);

@@ -36,6 +36,10 @@ const VALUE: HandleId = HandleId(28);
 
 const PROMISE: HandleId = HandleId(30);
 
+const BUFFER: HandleId = HandleId(31);
+
+const VIEW: HandleId = HandleId(33);
+
 const UNKNOWN: HandleId = HandleId(99);
 
 /// The object as each of so many arguments.
@@ -276,6 +280,28 @@ fn promises(rt: &impl Abort, core: &mut EnvCore) {
     registers(rt, core, Call::AddReaction(PROMISE, 9, 72), 15);
 }
 
+/// A buffer with a view of three numbers of 16 bits, which is detached, and an external buffer.
+fn buffers(rt: &impl Abort, core: &mut EnvCore) {
+    gives(rt, core, Call::CreateArraybuffer(8), 31);
+    tells(rt, core, Call::IsArraybuffer(BUFFER), "flag", 1);
+    tells_tickets(
+        rt,
+        core,
+        Call::CreateExternalArraybuffer(4, 81, 10, 82),
+        ("handle", 32),
+        [16, 0],
+    );
+    gives(rt, core, Call::CreateTypedarray(4, BUFFER, 2, 3), 33);
+    does(rt, core, Call::SetView(VIEW, 2, 65_794));
+    tells(rt, core, Call::GetView(VIEW, 2), "number", 258);
+    refuses(rt, core, Call::GetView(VIEW, 3), 1);
+    tells(rt, core, Call::GetArraybufferInfo(BUFFER), "number", 8);
+    refuses(rt, core, Call::GetArraybufferInfo(VIEW), 19);
+    does(rt, core, Call::DetachArraybuffer(BUFFER));
+    refuses(rt, core, Call::DetachArraybuffer(BUFFER), 20);
+    tells(rt, core, Call::IsDetachedArraybuffer(BUFFER), "flag", 1);
+}
+
 /// The other calls, and the second addon's frame.
 fn others(rt: &impl Abort, core: &mut EnvCore) {
     tells(rt, core, Call::GetVersion, "number", 10);
@@ -315,6 +341,7 @@ fn others(rt: &impl Abort, core: &mut EnvCore) {
     );
     asynchronous_hooks(rt, core);
     promises(rt, core);
+    buffers(rt, core);
     tells(rt, core, Call::GetInstanceData, "number", 0);
     leave(rt, core, None, DONE);
 }
@@ -332,7 +359,7 @@ fn first_asynchronous_hook(rt: &impl Abort, core: &mut EnvCore) {
 fn reactions(rt: &impl Abort, core: &mut EnvCore) {
     run_next(rt, core, None, ("ticket", 14, [1, 8, 71, 1, 0, 0, 0, 0]));
     let reaction = start_next(rt, core);
-    gives(rt, core, Call::GetReactionValue, 31);
+    gives(rt, core, Call::GetReactionValue, 34);
     end_ticket(rt, core, reaction, None);
 }
 
@@ -341,14 +368,14 @@ fn teardown(rt: &impl Abort, core: &mut EnvCore) {
     // In the loop a ticket is due, though exit was asked. In `Hooks` that of the hook that was added last is next, and none after all have begun. One
     // waits and is abandoned. None is next in `Drain`.
     advance(rt, core, 1);
-    look(rt, core, ("depth", 0, [119, 0, 884, 1, 1, 9, 0, 1]));
+    look(rt, core, ("depth", 0, [131, 0, 870, 1, 1, 9, 0, 1]));
     advance(rt, core, 2);
     finish_and_close(core, 2, 3);
     run_next(rt, core, None, ("ticket", 12, [1, 7, 61, 2, 0, 0, 0, 0]));
     first_asynchronous_hook(rt, core);
     run_next(rt, core, None, ("ticket", 7, [0, 2, 50, 0, 0, 0, 0, 0]));
     run_next(rt, core, None, ("no ticket", 0, NONE));
-    look(rt, core, ("depth", 0, [128, 3, 881, 1, 0, 9, 0, 2]));
+    look(rt, core, ("depth", 0, [140, 3, 867, 1, 0, 9, 0, 2]));
     abandon(rt, core, 4);
     advance(rt, core, 5);
     run_next(rt, core, None, ("no ticket", 0, NONE));
@@ -365,9 +392,10 @@ fn teardown(rt: &impl Abort, core: &mut EnvCore) {
     run_next(rt, core, None, ("ticket", 9, [0, 4, 31, 32, 0, 0, 0, 0]));
     run_next(rt, core, None, ("ticket", 10, [1, 6, 41, 42, 0, 0, 0, 0]));
     reactions(rt, core);
+    run_next(rt, core, None, ("ticket", 16, [1, 10, 81, 82, 0, 0, 0, 0]));
     run_next(rt, core, None, ("no ticket", 0, NONE));
     advance(rt, core, 0);
-    look(rt, core, ("depth", 0, [144, 6, 880, 1, 0, 9, 0, 5]));
+    look(rt, core, ("depth", 0, [158, 6, 866, 1, 0, 9, 0, 5]));
 }
 
 #[test]
@@ -379,5 +407,5 @@ fn each_call_succeeds(rt: HostRuntime) {
     functions(&rt, &mut core);
     others(&rt, &mut core);
     teardown(&rt, &mut core);
-    assert_eq!(rt; core.into_journal().items().len(), 144);
+    assert_eq!(rt; core.into_journal().items().len(), 158);
 }

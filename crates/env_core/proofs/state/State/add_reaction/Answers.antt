@@ -26,13 +26,13 @@ returns-then-is_none-clause-ok c =
     rw (← c.self.view_is)
     (rw c.plain-then-is_none.ensures
     (react-refused (the_view s) s.store s.scopes (map_of s.references) s.tsfn_roots s.registry.parts.attachments s.exceptions.pending s.registry.parts.promises
-    c.args.promise c.args.entry c.args.payload c.in-Some.value.0 c.invariant.ensures live c.self.invariant.3 c.in-Some.ensures
+    c.args.promise c.args.entry c.args.payload c.in-Some.value.0 c.invariant.ensures live c.self.invariant.3.promises c.in-Some.ensures
     (rw (← c.promise_state.ensures) (c.is_none.ensures ∙ ap not c.if-is_none.true))))
 
 pub react-requires-clause-new : goal.react-requires-clause-new
 react-requires-clause-new c =
     let s = c.self.inside in
-    no-reaction s.store c.invariant.ensures s.registry.parts.promises c.self.invariant.3 (the_view s) refl (rw (← c.self.view_is) at c.requires.hooked)
+    no-reaction s.store c.invariant.ensures s.registry.parts.promises c.self.invariant.3.promises (the_view s) refl (rw (← c.self.view_is) at c.requires.hooked)
 
 pub returns-in_err-duty-clause-unrefused : goal.returns-in_err-duty-clause-unrefused
 returns-in_err-duty-clause-unrefused c =
@@ -41,7 +41,7 @@ returns-in_err-duty-clause-unrefused c =
     rw (← c.self.view_is)
     (at-err _
     (react-unrefused (the_view s) s.store s.scopes (map_of s.references) s.tsfn_roots s.registry.parts.attachments s.exceptions.pending s.registry.parts.promises
-    c.args.promise c.args.entry c.args.payload c.in-Some.value.0 c.invariant.ensures live c.self.invariant.3 c.in-Some.ensures
+    c.args.promise c.args.entry c.args.payload c.in-Some.value.0 c.invariant.ensures live c.self.invariant.3.promises c.in-Some.ensures
     (rw (← c.promise_state.ensures) (c.is_none.ensures ∙ ap not c.if-is_none.false))))
 
 pub invariant_of-self-2 : goal.invariant_of-self-2
@@ -53,7 +53,10 @@ invariant_of-self-2 c =
       c.self.invariant.0,
       c.self.invariant.1,
       begun-registered s.frames s.registry.parts.book r c.self.invariant.2,
-      promised-reacting s.store ps c.in-Some.value.0 _ c.self.invariant.3,
+      record {
+        promises = promised-reacting s.store ps c.in-Some.value.0 _ c.self.invariant.3.promises;
+        buffers = c.self.invariant.3.buffers;
+      },
     )
 
 pub returns-clause-ok : goal.returns-clause-ok
@@ -63,5 +66,5 @@ returns-clause-ok c =
     rw (← c.self.view_is)
     (rw (c.in_ok-duty.ensures.made, c.in_ok-duty.ensures.reacts)
     (react-answers (the_view s) s.store s.scopes (map_of s.references) s.tsfn_roots s.registry.parts.attachments s.exceptions.pending s.registry.parts.promises
-    c.args.promise c.args.entry c.args.payload c.in-Some.value.0 c.invariant.ensures live c.self.invariant.3 c.in-Some.ensures
+    c.args.promise c.args.entry c.args.payload c.in-Some.value.0 c.invariant.ensures live c.self.invariant.3.promises c.in-Some.ensures
     (rw (← c.promise_state.ensures) (c.is_none.ensures ∙ ap not c.if-is_none.false)) c.caller-addon.result (rw (← c.self.view_is) at c.caller-addon.ensures)))

@@ -23,7 +23,10 @@ invariant_of-self c =
       state-left s.store s.scopes c.leave_frame.new.self s.frames c.pop.new.self s.exceptions.pending s.exceptions.pending c.self.invariant.0 c.leave_frame.ensures c.pop.ensures c.self.invariant.0.pending,
       rw c.end_ticket.ensures c.self.invariant.1,
       begun-none c.pop.new.self c.end_ticket.new.self.parts.book (c.pop.ensures ∙ ap tail same ∙ c.requires.alone),
-      rw c.end_ticket.ensures (promised-ended s.store s.registry.parts.promises c.args.begun.duty c.self.invariant.3),
+      rw c.end_ticket.ensures (record {
+        promises = promised-ended s.store s.registry.parts.promises c.args.begun.duty c.self.invariant.3.promises;
+        buffers = c.self.invariant.3.buffers;
+      }),
     )
 
 pub returns-clause-after : goal.returns-clause-after

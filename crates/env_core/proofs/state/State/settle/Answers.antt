@@ -1,4 +1,3 @@
-use Rattle.std.proofs.Common.{refl}
 use Rattle.napi_types.specs.parts.Promises.{reactions_of}
 use Rattle.napi_reference.specs.ReferencePlaces.{map_of}
 use Rattle.env_values.proofs.HandleValues.{given-live}
@@ -6,7 +5,8 @@ use Rattle.env_core.specs.contracts.state.State.{the_view}
 use Rattle.env_core.specs.Promising.{settling_call}
 use Rattle.env_core.proofs.Attaching.{attached-kept}
 use Rattle.env_core.proofs.Beginning.{begun-settled}
-use Rattle.env_core.proofs.PromiseAnswers.{deferred-live, deferred-linked, settling-call, settle-unknown, settle-refused, settle-answers}
+use Rattle.env_core.proofs.Buffering.{buffered-kept, buffers-kept}
+use Rattle.env_core.proofs.PromiseAnswers.{deferred-promise, settling-call, settle-unknown, settle-refused, settle-answers}
 use Rattle.env_core.proofs.Promising.{promised-kept, promised-settled}
 use Rattle.env_core.proofs.TsfnRooting.{roots-live}
 use Rattle.env_core.proofs.ValueAnswers.{pending-live, referred-live}
@@ -15,13 +15,7 @@ use Rattle.env_core.proofs.state.State.settle.Goals as goal
 pub settle_with-requires-clause-promise : goal.settle_with-requires-clause-promise
 settle_with-requires-clause-promise c =
     let s = c.self.inside in
-    deferred-live s.store s.registry.parts.promises c.self.invariant.3 c.args.deferred.0 c.in-Ok.promise.0 c.in-Ok.ensures.promise
-
-pub settle_with-requires-clause-linked : goal.settle_with-requires-clause-linked
-settle_with-requires-clause-linked c =
-    let s = c.self.inside in
-    deferred-linked s.store s.registry.parts.promises (the_view s) refl refl (rw (← c.self.view_is) at c.requires.promised) c.args.deferred.0
-    c.in-Ok.promise.0 c.in-Ok.ensures.promise
+    deferred-promise s.store s.registry.parts.promises c.self.invariant.3.promises c.args.deferred.0 c.in-Ok.promise.0 c.in-Ok.ensures.promise
 
 pub settle_with-requires-clause-live : goal.settle_with-requires-clause-live
 settle_with-requires-clause-live c =
@@ -45,8 +39,11 @@ invariant_of-self c =
       rw c.in-Ok.ensures.settled
           (begun-settled s.frames s.registry.parts.book c.args.state (reactions_of s.registry.parts.promises c.in-Ok.promise.0) c.self.invariant.2),
       rw c.in-Ok.ensures.settled
-          (promised-settled g.new.store s.registry.parts.promises c.args.deferred.0 c.in-Ok.promise.0 c.args.state
-          (promised-kept s.store g.new.store kept s.registry.parts.promises c.self.invariant.3)),
+          (record {
+            promises = promised-settled g.new.store s.registry.parts.promises c.args.deferred.0 c.in-Ok.promise.0 c.args.state
+                (promised-kept s.store g.new.store kept s.registry.parts.promises c.self.invariant.3.promises);
+            buffers = buffered-kept s.store g.new.store kept s.registry.parts.buffers c.self.invariant.3.buffers;
+          }),
     )
 
 pub returns-in_default : goal.returns-in_default
@@ -75,8 +72,12 @@ returns-in-Ok c =
     let g = c.settle_with in
     let d = c.args.deferred in
     rw (← c.self.view_is)
-    (rw (c.plain-in-Ok.ensures, c.in-Ok.ensures.settled)
+    (rw (
+      c.plain-in-Ok.ensures,
+      c.in-Ok.ensures.settled,
+      buffers-kept s.store g.new.store g.ensures.keeps.values c.invariant.ensures s.registry.parts.buffers c.self.invariant.3.buffers,
+    )
     (settle-answers (the_view s) s.store g.new.store s.scopes (map_of s.references) s.tsfn_roots s.registry.parts.attachments s.exceptions.pending
     s.registry.parts.promises (settling_call c.args.state d c.args.value) d c.args.value c.args.state c.in-Some.value.0
     c.in-Ok.promise.0 (settling-call d c.args.value c.args.state c.requires.state) g.ensures.keeps.values c.invariant.ensures i.referred i.rooted
-    c.self.invariant.1 i.pending c.self.invariant.3 c.in-Some.ensures c.in-Ok.ensures.promise g.ensures.heap))
+    c.self.invariant.1 i.pending c.self.invariant.3.promises c.in-Some.ensures c.in-Ok.ensures.promise g.ensures.heap))

@@ -8,6 +8,7 @@ use Rattle.env_core.specs.contracts.state.State.{the_view}
 use Rattle.env_values.specs.SeenValues.{heap_of}
 use Rattle.env_values.proofs.Giving.{thrown-heap}
 use Rattle.env_core.proofs.Attaching.{attachments-kept}
+use Rattle.env_core.proofs.Buffering.{buffers-kept}
 use Rattle.env_core.proofs.Promising.{promises-kept}
 use Rattle.env_core.proofs.TsfnRooting.{roots-kept}
 use Rattle.env_core.proofs.CoreExceptions.{accepted-thrown}
@@ -29,7 +30,8 @@ returns-clause-ok c =
       references-kept s.store t (map_of s.references) k.kept c.self.invariant.0.referred,
       roots-kept s.store t s.tsfn_roots k.kept c.self.invariant.0.rooted,
       attachments-kept s.store t k.kept s.registry.parts.attachments c.self.invariant.1,
-      promises-kept s.store t k.kept s.registry.parts.promises c.self.invariant.3,
+      promises-kept s.store t k.kept s.registry.parts.promises c.self.invariant.3.promises,
+      buffers-kept s.store t k.kept c.invariant.ensures s.registry.parts.buffers c.self.invariant.3.buffers,
     )
     (accepted-thrown (the_view s) s.store t s.scopes c.args.code c.args.message c.in_ok-error.error.0 known
     (thrown-heap s.store t s.scopes c.args.code c.args.message k.kept.numbers c.self.invariant.0.live k.made k.graph) k.number))
