@@ -1,5 +1,7 @@
 -- Nobody is lost in a run that came to its end.
 use Rattle.std.proofs.Common.{List}
+use Rattle.napi_types.proofs.all_runs.BytesRuns.{bytes-shared}
+use Rattle.napi_types.proofs.all_runs.LifeRuns.{buffers-outlive}
 use Rattle.napi_types.proofs.all_runs.PromiseRuns.{promises-kept}
 use Rattle.napi_types.proofs.all_runs.SettledHooks.{hooks-settled}
 use Rattle.napi_types.specs.declared.call.Ask.{Ask}
@@ -28,4 +30,6 @@ keeps-promises s asks xs ended =
       cancels = cancels-told s asks xs ended;
       settled = hooks-settled s asks xs ended.run;
       promised = promises-kept s asks xs ended;
+      bytes = bytes-shared s asks xs ended.run;
+      lives = buffers-outlive s asks xs ended.run;
     }

@@ -1,7 +1,9 @@
 -- A run as it is recorded: the environment's core, the history, and what contracts see of the addons.
 use Rattle.std.specs.Prelude.{◌≡◌, ℕ, ◌<◌, List, ◌++◌, length, map, Some, None, IsTrue}
 use Rattle.napi_types.specs.all_runs.AbandonedHooks.{SettlesHooks}
+use Rattle.napi_types.specs.all_runs.BufferLives.{OutlivesViews, lives_told_along}
 use Rattle.napi_types.specs.all_runs.SettledPromises.{SettlesPromises, told_along}
+use Rattle.napi_types.specs.all_runs.SharedBytes.{SharesBytes, bytes_told_along}
 use Rattle.napi_types.specs.declared.call.Ask.{Ask}
 use Rattle.napi_types.specs.declared.duties.DueInfo.{DueInfo}
 use Rattle.napi_types.specs.declared.entry.Duty.TheVariants as duty
@@ -109,6 +111,10 @@ pub record KeepsPromises (s : Setting) (asks : List Ask) (trace : List Entry) : 
   pub settled : SettlesHooks trace
   -- each deferred is settled once at most, and each reaction that is added to a promise begins, and is told how that was settled
   pub promised : SettlesPromises (told_along (opening_of s) asks trace)
+  -- what is read through a view of a buffer is what was last written at its places through any view of the same buffer
+  pub bytes : SharesBytes (bytes_told_along (opening_of s) asks trace)
+  -- a buffer lives as long as each view of it, and the finalizer of an external one begins only once it lives no more, or after `finals`
+  pub lives : OutlivesViews (lives_told_along (opening_of s) asks trace)
 
 -- a run that came to its end, as it is left: the weave of the two lists is a run of the script to `gone`, which keeps what it promises. The journal stands in
 -- the order of its places, each entry of it in its place, each list has its own entries, the registers of the script's addons are the run's, and each addon has

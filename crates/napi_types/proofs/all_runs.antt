@@ -44,3 +44,15 @@ pub mod WorkersStand
 pub mod PromiseTells
 pub mod PromisesRefuted
 pub mod QuietCalls
+pub mod BytesHistory
+pub mod BytesKept
+pub mod BytesQuiet
+pub mod BytesTells
+pub mod BytesRuns
+pub mod BytesRefuted
+pub mod LifeHistory
+pub mod LifeKept
+pub mod LifeQuiet
+pub mod LifeTells
+pub mod LifeRuns
+pub mod LivesRefuted

@@ -1,6 +1,7 @@
 -- What holds of all runs.
 pub mod AbandonedHooks
 pub mod AcceptedCalls
+pub mod BufferLives
 pub mod Cancels
 pub mod CollectionLaw
 pub mod Counts
@@ -13,4 +14,5 @@ pub mod Laws
 pub mod OnceLaws
 pub mod Order
 pub mod SettledPromises
+pub mod SharedBytes
 pub mod TurnsInOrder

@@ -1,6 +1,8 @@
 //! What the machine's definitions come to over all runs, as laws: each function does nothing, and its contract states a law.
 ghost use Rattle.napi_types.specs.all_runs.AbandonedHooks.{HooksAreSettled};
 ghost use Rattle.napi_types.specs.all_runs.SettledPromises.{PromisesAreSettled};
+ghost use Rattle.napi_types.specs.all_runs.BufferLives.{BuffersOutliveViews};
+ghost use Rattle.napi_types.specs.all_runs.SharedBytes.{ViewsShareBytes};
 ghost use Rattle.napi_types.specs.all_runs.Laws.{RoomSuffices, CollectionsKeepWhatIsReached, TicketsAreOnce, WithdrawnByTheirCalls, EveryDutyIsOnce, TicketsBeginInOrder, TicketsAreCounted};
 
 /// Where the limits have room for the events that every run has, entries and reserved places stay within them at the end
@@ -57,4 +59,17 @@ pub fn asynchronous_hooks_are_settled()
 /// `finals` came. The value that its frame is told is the one that settled the promise.
 pub fn promises_are_settled()
     ensures { PromisesAreSettled }
+{}
+
+/// In every run of a script all views of an array buffer share its bytes. An accepted `get_view` gives the number whose bytes, the least first, are those that
+/// were last written at its places by an accepted `set_view` through any view of the same buffer, and 0 where none was. A view lies in its buffer, and an
+/// element is below its view's length. A buffer is detached once at most; then it has no bytes, and none is read or written through a view of it.
+pub fn views_share_bytes()
+    ensures { ViewsShareBytes }
+{}
+
+/// In every run of a script a buffer lives as long as each view of it: a view is made of a buffer that lives, and a collection that leaves the view leaves the
+/// buffer. The finalizer of an external buffer begins only once a collection left the buffer out, or `finals` came.
+pub fn buffers_outlive_their_views()
+    ensures { BuffersOutliveViews }
 {}

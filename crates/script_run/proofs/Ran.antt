@@ -87,6 +87,8 @@ ran-of script texts handed after left small counted enough ended loaded others t
         cancels = e.promises.cancels;
         settled = e.promises.settled;
         promised = e.promises.promised;
+        bytes = e.promises.bytes;
+        lives = e.promises.lives;
       };
       loaded = loaded;
       others = others;

@@ -1,7 +1,9 @@
 -- The run of a script with the addons that were handed in, as its two lists tell it.
 use Rattle.std.specs.Prelude.{◌≡◌, ◌≤◌, ◌<◌, ◌^◌, ℕ, List, ◌++◌, length, map, drop, slice_get, true, Some, None, IfSome}
 use Rattle.napi_types.specs.all_runs.AbandonedHooks.{SettlesHooks}
+use Rattle.napi_types.specs.all_runs.BufferLives.{OutlivesViews, lives_told_along}
 use Rattle.napi_types.specs.all_runs.SettledPromises.{SettlesPromises, told_along}
+use Rattle.napi_types.specs.all_runs.SharedBytes.{SharesBytes, bytes_told_along}
 use Rattle.napi_types.specs.declared.call.Ask.{Ask}
 use Rattle.napi_types.specs.declared.duties.DueInfo.{DueInfo}
 use Rattle.napi_types.specs.declared.entry.Actor.{Actor}
@@ -71,6 +73,11 @@ pub record IsRunOf (script : Script) (handed : List Plan) (left : Record) (regis
   -- each deferred was settled once at most; each reaction that was added to a promise began once, after the earlier ones of that promise, with the state with
   -- which the promise was settled before, or with 0 after `finals` where it was not; and what its frame was told is the value that settled the promise
   pub promised : SettlesPromises (told_along (opening_of (setting_of script handed)) asks (weave left.journal left.history))
+  -- all views of an array buffer shared its bytes: what was read through one was what was last written at its places through any of them, and 0 where nothing
+  -- was. A view lay in its buffer, and once that was detached nothing was read or written any more
+  pub bytes : SharesBytes (bytes_told_along (opening_of (setting_of script handed)) asks (weave left.journal left.history))
+  -- a buffer lived as long as each view of it, and the finalizer of an external one began only once a collection had left the buffer out, or `finals` had come
+  pub lives : OutlivesViews (lives_told_along (opening_of (setting_of script handed)) asks (weave left.journal left.history))
   -- the entries of each thread are the calls of its script, in their order, each once, and then its end. It ended cut only where the next call had no room, and
   -- as full exactly there, or might want memory
   pub threads : (t : ℕ) (operations : List Op) → slice_get script.threads t ≡ Some operations → MadeItsScript (setting_of script handed) t operations left.history

@@ -22,6 +22,7 @@ use Rattle.napi_types.specs.declared.ids.AsyncHookId.{AsyncHookId}
 use Rattle.napi_types.specs.declared.ids.HandleId.{HandleId}
 use Rattle.napi_types.specs.declared.status.Status.{Status}
 use Rattle.napi_types.specs.declared.status.Status.TheVariants as status
+use Rattle.napi_types.specs.declared.view.ViewInfo.{ViewInfo}
 use Rattle.napi_types.specs.plain.Entries.{host_entry, is_begin}
 use Rattle.napi_types.specs.plain.Guards.{is_shared}
 use Rattle.napi_types.specs.plain.Lists.{has, has_number}
@@ -35,6 +36,7 @@ use Rattle.napi_types.specs.parts.Hooks.{Hook, hook_ticket}
 use Rattle.napi_types.specs.parts.InstanceData.{instance_ticket}
 use Rattle.napi_types.specs.parts.Promises.{deferred_promise}
 use Rattle.napi_types.specs.parts.References.{referred_value}
+use Rattle.napi_types.specs.environment.BufferCalls.{view_asked, making_view}
 use Rattle.napi_types.specs.environment.Calls.{effect, answer, answer_unless_deep}
 use Rattle.napi_types.specs.environment.Changes.{is_fresh_result}
 use Rattle.napi_types.specs.environment.Ends.{end_change}
@@ -172,6 +174,10 @@ module _ (e : Environment) where
   reading-rests None = refl
   reading-rests (Some v) = refl
 
+  viewing-rests : (about : Option ViewInfo) → LeavesHooks e (making_view e about)
+  viewing-rests None = refl
+  viewing-rests (Some about) = refl
+
 withdrawn-rests : (e : Environment) (t : Option ℕ) (a : Answer Environment) → LeavesHooks e a → LeavesHooks e (withdrawing t a)
 withdrawn-rests e None a same = same
 withdrawn-rests e (Some n) a same = same
@@ -202,6 +208,8 @@ effect-rests e (call.RemoveAsyncCleanupHook hook) n plain lasting = absurd (last
 effect-rests e (call.ResolveDeferred d v) n plain lasting = settling-rests e d.0 (handle_value e.heap v.0) resolved (deferred_promise e.promises d.0)
 effect-rests e (call.RejectDeferred d v) n plain lasting = settling-rests e d.0 (handle_value e.heap v.0) rejected (deferred_promise e.promises d.0)
 effect-rests e call.GetReactionValue n plain lasting = reading-rests e (reaction_value e)
+effect-rests e (call.CreateTypedarray kind h offset count) n plain lasting =
+    viewing-rests e (view_asked e.buffers kind (handle_value e.heap h.0) offset count)
 effect-rests e c n plain lasting = refl
 
 abbrev CallStep : Environment → Call → Answer Environment → Type 0

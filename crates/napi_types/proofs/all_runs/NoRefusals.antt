@@ -1,5 +1,5 @@
 -- No refusal is an acceptance.
-use Rattle.std.proofs.Common.{◌≡◌, ℕ, Bool, true, false, not, ◌&&◌, ◌||◌, cond, ◌==◌, List, [], ◌∷◌, refl, Option, Some, None, is_some, is_none, IfSome}
+use Rattle.std.proofs.Common.{◌≡◌, ℕ, ◌+◌, nat_lt, Bool, true, false, not, ◌&&◌, ◌||◌, cond, ◌==◌, List, [], ◌∷◌, refl, Option, Some, None, is_some, is_none, IfSome}
 use Rattle.std.specs.Option.{option_or}
 use Rattle.std.specs.List.{list_all}
 use Rattle.napi_types.specs.declared.body.Body.{Body}
@@ -10,16 +10,18 @@ use Rattle.napi_types.specs.declared.ids.ScopeKind.{ScopeKind}
 use Rattle.napi_types.specs.declared.status.Status.{Status}
 use Rattle.napi_types.specs.declared.status.Status.TheVariants as status
 use Rattle.napi_types.specs.declared.call.CallGroup.{CallGroup}
-use Rattle.napi_types.specs.declared.call.CallGroup.TheVariants.{OnValues, OnProperties, OnFunctions, OnScopes, OnReferences, OnWraps, OnEntering, OnHooks, OnPromises, OnTsfns}
+use Rattle.napi_types.specs.declared.call.CallGroup.TheVariants.{OnValues, OnProperties, OnFunctions, OnScopes, OnReferences, OnWraps, OnEntering, OnHooks, OnPromises, OnBuffers, OnTsfns}
 use Rattle.napi_types.specs.plain.CallFacts.{group_of}
 use Rattle.napi_types.specs.plain.Guards.{is_guarded, is_registering}
 use Rattle.napi_types.specs.plain.Lists.{when, unless}
 use Rattle.napi_types.specs.plain.Numbers.{is_ten_or_later}
 use Rattle.napi_types.specs.parts.Attachments.{Attachments}
 use Rattle.napi_types.specs.parts.Bodies.{is_function, is_referable, is_string}
+use Rattle.napi_types.specs.parts.BufferRefusals.{buffer_kinds}
+use Rattle.napi_types.specs.parts.Buffers.{Buffers, most_buffer_bytes, most_bytes_together, buffer_length, total_bytes, is_detached_buffer, element_read}
 use Rattle.napi_types.specs.parts.Frames.{Frame}
 use Rattle.napi_types.specs.parts.FunctionCalls.{function_refusal}
-use Rattle.napi_types.specs.parts.Heap.{Heap, handle_body}
+use Rattle.napi_types.specs.parts.Heap.{Heap, handle_value, handle_body}
 use Rattle.napi_types.specs.parts.HeapGroups.{heap_group}
 use Rattle.napi_types.specs.parts.HeapRefusals.{kind_refusal, row_refusal, refusal_in}
 use Rattle.napi_types.specs.parts.Kinds.{expects, expects_if}
@@ -32,6 +34,7 @@ use Rattle.napi_types.specs.parts.ScopeRefusals.{has_scope, is_kind, closing, re
 use Rattle.napi_types.specs.parts.Scopes.{Scope, opened_scopes}
 use Rattle.napi_types.specs.parts.ValueCalls.{value_kinds, value_refusal}
 use Rattle.napi_types.specs.parts.WrapRefusals.{wrap_kinds, wrap_refusal}
+use Rattle.napi_types.specs.environment.BufferCalls.{view_asked, limit_refusal, no_buffer_refusal, buffer_refusal}
 use Rattle.napi_types.specs.environment.Environment.{Environment}
 use Rattle.napi_types.specs.environment.Groups.{call_group}
 use Rattle.napi_types.specs.environment.HookCalls.{hook_refusal}
@@ -98,10 +101,15 @@ by-wrap_kind heap (call.CheckObjectTypeTag h _ _) = by-unless _ status.ObjectExp
 by-wrap_kind heap (call.AddFinalizer h _ _ _ _) = by-unless _ status.ObjectExpected refl
 by-wrap_kind heap _ = tt
 
+by-buffer_kind : (heap : Heap) (c : Call) → Refuses (buffer_kinds heap c)
+by-buffer_kind heap (call.DetachArraybuffer h) = by-unless _ status.ObjectExpected refl
+by-buffer_kind heap _ = tt
+
 by-kind : (g : CallGroup) (heap : Heap) (c : Call) → Refuses ((heap_group g).expects heap c)
 by-kind OnValues heap c = by-value_kind heap c
 by-kind OnProperties heap c = by-property_kind heap c
 by-kind OnWraps heap c = by-wrap_kind heap c
+by-kind OnBuffers heap c = by-buffer_kind heap c
 by-kind _ heap c = tt
 
 by-closing : (n : ℕ) (kind : ScopeKind) (ss : List Scope) → Refuses (closing n kind ss)
@@ -171,6 +179,30 @@ by-promise e (call.AddReaction h entry payload) = by-unless _ status.InvalidArg 
 by-promise e call.GetReactionValue = by-unless _ status.InvalidArg refl
 by-promise e _ = tt
 
+by-limits : (b : Buffers) (size : ℕ) → Refuses (limit_refusal b size)
+by-limits b size =
+    either (when (nat_lt most_buffer_bytes size) status.InvalidArg) (when (nat_lt most_bytes_together (total_bytes b + size)) status.GenericFailure)
+    (by-when (nat_lt most_buffer_bytes size) status.InvalidArg refl) (by-when (nat_lt most_bytes_together (total_bytes b + size)) status.GenericFailure refl)
+
+by-no_buffer : (b : Buffers) (v : ℕ) → Refuses (no_buffer_refusal b v)
+by-no_buffer b v = by-unless (is_some (buffer_length b v)) status.ArraybufferExpected refl
+
+by-buffer : (e : Environment) (c : Call) → Refuses (buffer_refusal e c)
+by-buffer e (call.CreateArraybuffer size) = by-limits e.buffers size
+by-buffer e (call.CreateExternalArraybuffer size _ _ _) = by-limits e.buffers size
+by-buffer e (call.GetArraybufferInfo h) = by-no_buffer e.buffers (handle_value e.heap h.0)
+by-buffer e (call.DetachArraybuffer h) =
+    let v : ℕ = handle_value e.heap h.0 in
+    either (no_buffer_refusal e.buffers v) (when (is_detached_buffer e.buffers v) status.DetachableArraybufferExpected) (by-no_buffer e.buffers v)
+    (by-when (is_detached_buffer e.buffers v) status.DetachableArraybufferExpected refl)
+by-buffer e (call.CreateTypedarray kind h offset count) =
+    let v : ℕ = handle_value e.heap h.0 in
+    either (no_buffer_refusal e.buffers v) (unless (is_some (view_asked e.buffers kind v offset count)) status.InvalidArg) (by-no_buffer e.buffers v)
+    (by-unless (is_some (view_asked e.buffers kind v offset count)) status.InvalidArg refl)
+by-buffer e (call.GetView h at) = by-unless (is_some (element_read e.buffers (handle_value e.heap h.0) at)) status.InvalidArg refl
+by-buffer e (call.SetView h at number) = by-unless (is_some (element_read e.buffers (handle_value e.heap h.0) at)) status.InvalidArg refl
+by-buffer e _ = tt
+
 by-count : (m : ReferenceMap) (c : Call) → Refuses (count_refusal m c)
 by-count m (call.ReferenceRef r) = by-when _ status.GenericFailure refl
 by-count m (call.ReferenceUnref r) = by-when _ status.GenericFailure refl
@@ -189,6 +221,7 @@ by-group OnReferences e c = either (referring_refusal e c) (reference_refusal e.
 by-group OnWraps e c = by-attachment e.attachments e.heap c
 by-group OnHooks e c = by-hook e c
 by-group OnPromises e c = by-promise e c
+by-group OnBuffers e c = by-buffer e c
 by-group _ e c = tt
 
 by-depth : (fs : List Frame) (c : Call) → Refuses (depth_refusal fs c)

@@ -59,20 +59,23 @@ pub record BeginsLowestDue (e : Environment) (n : ℕ) (r : Registration) (p : P
   pub due : r.state ≡ Due
   pub move : begun_in p ≡ made_begun
 
-due-only : (s : TicketState) → is_due s ≡ true → s ≡ Due
+pub due-only : (s : TicketState) → is_due s ≡ true → s ≡ Due
 due-only Due is = refl
 due-only _ is = cc
+
+-- in Hooks those of hooks do
+pub hooks-begin : (e : Environment) (n : ℕ) → IsHooked e → ticket_in e phase.Hooks ≡ Some n → cause_at e.book n ≡ Some cause.Hook
+hooks-begin e n h next =
+    standing-holds (λ t. cause_at e.book t ≡ Some cause.Hook) n e.hooks
+    (All-weaker (StandsIn e.phase e.book) (λ (x : Hook). cause_at e.book x.ticket ≡ Some cause.Hook) (λ x stands. stands.cause) e.hooks h.hooks)
+    (last-among e.hooks n next)
 
 pub begins-lowest : (e : Environment) (n : ℕ) (r : Registration) (p : Phase) → IsHooked e → registration_at e.book n ≡ Some r → r.cause ≡ cause.Reaction
     → ticket_in e p ≡ Some n → may_begin_in p r.state ≡ true → BeginsLowestDue e n r p
 begins-lowest e n r phase.Live h there why next may = record { lowest = next; due = due-only r.state may; move = refl }
 begins-lowest e n r phase.Finals h there why next may = record { lowest = next; due = due-only r.state may; move = refl }
 begins-lowest e n r phase.Hooks h there why next may =
-    let is : cause_at e.book n ≡ Some cause.Hook =
-    standing-holds (λ t. cause_at e.book t ≡ Some cause.Hook) n e.hooks
-    (All-weaker (StandsIn e.phase e.book) (λ (x : Hook). cause_at e.book x.ticket ≡ Some cause.Hook) (λ x stands. stands.cause) e.hooks h.hooks)
-    (last-among e.hooks n next) in
-    let no : cause.Reaction ≡ cause.Hook = same_Some cause.Reaction cause.Hook (sym (at-cause e.book n r there ∙ ap Some why) ∙ is) in
+    let no : cause.Reaction ≡ cause.Hook = same_Some cause.Reaction cause.Hook (sym (at-cause e.book n r there ∙ ap Some why) ∙ hooks-begin e n h next) in
     absurd (let z : ⊥ = cc in z)
 begins-lowest e n r _ h there why next may = let no : ⊥ = cc in absurd no
 

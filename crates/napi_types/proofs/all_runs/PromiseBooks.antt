@@ -1,5 +1,5 @@
 -- What the book and the values keep of reactions and of promises, where something else changes.
-use Rattle.std.proofs.Common.{◌≡◌, ◌≢◌, ◌∙◌, ℕ, ◌==◌, Bool, true, false, cond, List, ◌++◌, Option, Some, None, is_some, option_map, ⊎_elim, refl, ap, sym}
+use Rattle.std.proofs.Common.{◌≡◌, ◌≢◌, ◌∙◌, ◌⊎◌, ◌≤◌, ◌<◌, ℕ, ◌+◌, ◌==◌, Bool, true, false, cond, List, [], ◌∷◌, ◌++◌, Option, Some, None, is_some, option_map, inl, inr, ⊎_elim, refl, ap, sym, arith}
 use Rattle.std.specs.List.{All}
 use Rattle.std.specs.Option.{option_and_then, option_or}
 use Rattle.napi_types.specs.declared.entry.Cause.TheVariants as cause
@@ -7,7 +7,7 @@ use Rattle.napi_types.specs.declared.entry.Duty.{Duty}
 use Rattle.napi_types.specs.plain.Lists.{found, has_number}
 use Rattle.napi_types.specs.parts.Book.{Book, Registration, TicketState, Begun, is_owed, made_ended, changed_where, moved, moved_at, registration_at, with_registration, cause_at}
 use Rattle.napi_types.specs.parts.Values.{Value, value_at, link_of, value_changed, with_link, those_of}
-use Rattle.napi_types.proofs.plain.Found.{found-append, found-map, found-filter, found-number, found-All, same-self}
+use Rattle.napi_types.proofs.plain.Found.{found-append, found-map, found-filter, found-number, found-All, apart-below, apart-above, same-self}
 use Rattle.napi_types.proofs.parts.Books.{ended-keeps}
 use Rattle.napi_types.proofs.parts.Moved.{IsUnder, BeginsFor, under, at-cause, registration_at-changed_where, registration_at-before, registration_at-either, KeepsCause, cause_at-changed_where}
 use Rattle.napi_types.proofs.environment.FrameChanges.{book_left}
@@ -95,13 +95,17 @@ pub left-same : (c : _) (d : Option Duty) (b : Book) → SameReactions b (book_l
 left-same c d b = left-kept (SameReactions b) b (λ t. end-same t b) c d (same-reactions b)
 
 -- VALUES
--- each value that is there stays, and has the link that it had; and no other has one
-pub record KeepsEachLink (old new : List Value) : Type 0 where
-  pub stays : (n : ℕ) → is_some (value_at old n) ≡ true → is_some (value_at new n) ≡ true
-  pub links : (n : ℕ) → link_of new n ≡ link_of old n
+-- a number is none of those that values newly got where so many were made before, and then so many
+abbrev pub IsNotNew : ℕ → ℕ → ℕ → Type 0
+IsNotNew m k n = (n ≤ m) ⊎ (k < n)
 
-pub same-links : (vs : List Value) → KeepsEachLink vs vs
-same-links vs = record { stays = λ n is. is; links = λ n. refl }
+-- each value that is there stays, and has the link that it had; and of all others a new one alone may have one
+pub record KeepsEachLink (m k : ℕ) (old new : List Value) : Type 0 where
+  pub stays : (n : ℕ) → is_some (value_at old n) ≡ true → is_some (value_at new n) ≡ true
+  pub links : (n : ℕ) → IsNotNew m k n → link_of new n ≡ link_of old n
+
+pub same-links : {m k : ℕ} (vs : List Value) → KeepsEachLink m k vs vs
+same-links vs = record { stays = λ n is. is; links = λ n old. refl }
 
 -- new values have none
 pub none-linked : (n : ℕ) (ws : List Value) → All (λ w. w.link ≡ None) ws → link_of ws n ≡ None
@@ -111,20 +115,35 @@ none-linked n ws all = by (found (λ (w : Value). w.number) n ws) refl
     by None is = refl
     by (Some w) is = found-All (λ (w : Value). w.number) (λ w. w.link ≡ None) n ws w all is
 
-pub more-links : (vs ws : List Value) → All (λ w. w.link ≡ None) ws → KeepsEachLink vs (vs ++ ws)
-more-links vs ws all = record {
-  stays = λ n is. ap is_some (found-append (λ (w : Value). w.number) n vs ws) ∙ some (value_at vs n) (value_at ws n) is;
-  links = λ n. ap (option_and_then (λ (w : Value). w.link)) (found-append (λ (w : Value). w.number) n vs ws) ∙ by (value_at vs n) (value_at ws n) (none-linked n ws all);
-}
+append-stays : (vs ws : List Value) (n : ℕ) → is_some (value_at vs n) ≡ true → is_some (value_at (vs ++ ws) n) ≡ true
+append-stays vs ws n is = ap is_some (found-append (λ (w : Value). w.number) n vs ws) ∙ some (value_at vs n) (value_at ws n) is
   where
     some : (a b : Option Value) → is_some a ≡ true → is_some (option_or a b) ≡ true
     some None b is = cc
     some (Some v) b is = refl
 
+append-link : (vs ws : List Value) (n : ℕ) → link_of ws n ≡ None → link_of (vs ++ ws) n ≡ link_of vs n
+append-link vs ws n none =
+    ap (option_and_then (λ (w : Value). w.link)) (found-append (λ (w : Value). w.number) n vs ws) ∙ by (value_at vs n) (value_at ws n) none
+  where
     by : (a b : Option Value) → option_and_then (λ (w : Value). w.link) b ≡ None
         → option_and_then (λ (w : Value). w.link) (option_or a b) ≡ option_and_then (λ (w : Value). w.link) a
     by None b none = none
     by (Some v) b none = refl
+
+pub more-links : {m k : ℕ} (vs ws : List Value) → All (λ w. w.link ≡ None) ws → KeepsEachLink m k vs (vs ++ ws)
+more-links vs ws all = record { stays = append-stays vs ws; links = λ n old. append-link vs ws n (none-linked n ws all) }
+
+-- a new value with a link
+pub more-linked : (m : ℕ) (vs : List Value) (w : Value) → w.number ≡ m + 1 → KeepsEachLink m (m + 1) vs (vs ++ w ∷ [])
+more-linked m vs w is = record { stays = append-stays vs (w ∷ []); links = λ n old. append-link vs (w ∷ []) n (other n old) }
+  where
+    apart : (n : ℕ) → IsNotNew m (m + 1) n → (m + 1 == n) ≡ false
+    apart n (inl below) = apart-above n (m + 1) (omega (arith, below))
+    apart n (inr above) = apart-below (m + 1) n above
+
+    other : (n : ℕ) → IsNotNew m (m + 1) n → link_of (w ∷ []) n ≡ None
+    other n old = rw (ap (λ k. k == n) is ∙ apart n old) refl
 
 -- a value that is changed
 pub found-changed : (k : ℕ) (change : Value → Value) → ((v : Value) → (change v).number ≡ v.number) → (vs : List Value) (n : ℕ)
@@ -143,11 +162,11 @@ pub changed-stays : (k : ℕ) (change : Value → Value) → ((v : Value) → (c
     → is_some (value_at (value_changed k change vs) n) ≡ true
 changed-stays k change number vs n is = ap is_some (found-changed k change number vs n) ∙ some-map _ (value_at vs n) is
 
-pub changed-links : (k : ℕ) (change : Value → Value) → ((v : Value) → (change v).number ≡ v.number) → ((v : Value) → (change v).link ≡ v.link) → (vs : List Value)
-    → KeepsEachLink vs (value_changed k change vs)
+pub changed-links : {m j : ℕ} (k : ℕ) (change : Value → Value) → ((v : Value) → (change v).number ≡ v.number) → ((v : Value) → (change v).link ≡ v.link) → (vs : List Value)
+    → KeepsEachLink m j vs (value_changed k change vs)
 changed-links k change number link vs = record {
   stays = changed-stays k change number vs;
-  links = λ n. ap (option_and_then (λ (w : Value). w.link)) (found-changed k change number vs n) ∙ by (value_at vs n);
+  links = λ n old. ap (option_and_then (λ (w : Value). w.link)) (found-changed k change number vs n) ∙ by (value_at vs n);
 }
   where
     each : (v : Value) (b : Bool) → (cond b (change v) v).link ≡ v.link

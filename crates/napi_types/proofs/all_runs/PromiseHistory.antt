@@ -32,11 +32,11 @@ same-history : (m n : List MadeDeferred) (s u : List SettledDeferred) (a b : Lis
     → of_lists m s a k f ≡ of_lists n u b l g
 same-history m n s u a b k l f g one two three four five = rw (one, two, three, four, five) refl
 
-or-none : (b : Bool) → (b || false) ≡ b
+pub or-none : (b : Bool) → (b || false) ≡ b
 or-none true = refl
 or-none false = refl
 
-or-some : (b : Bool) → (b || true) ≡ true
+pub or-some : (b : Bool) → (b || true) ≡ true
 or-some true = refl
 or-some false = refl
 

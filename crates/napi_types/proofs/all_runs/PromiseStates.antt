@@ -1,5 +1,5 @@
 -- What was told of promises is what an environment holds of them: every change keeps it.
-use Rattle.std.proofs.Common.{◌≡◌, ◌∙◌, ◌<◌, ◌≤◌, ℕ, ◌+◌, ◌==◌, Bool, true, false, not, cond, List, [], ◌∷◌, ◌++◌, map, filter, Option, Some, None, is_some, option_map, refl, ap, sym, subst, arith}
+use Rattle.std.proofs.Common.{◌≡◌, ◌∙◌, ◌<◌, ◌≤◌, ℕ, ◌+◌, ◌==◌, Bool, true, false, not, cond, List, [], ◌∷◌, ◌++◌, map, filter, Option, Some, None, is_some, option_map, inl, inr, refl, ap, sym, subst, arith}
 use Rattle.std.specs.List.{All}
 use Rattle.std.specs.Option.{option_and_then, unwrap_or}
 use Rattle.std.proofs.lemmas.Bool.{eqb-true, or_left, or_right, or_from}
@@ -152,25 +152,26 @@ told-book h late ps b c a same t =
           subst (Waits late (state_by h.made h.settled a.promise) ps a) (sym (s.same was)) (t.waits was);
     }
 
-pub known-values : (h : History) (vs ws : List Value) (r : Promise) → KeepsEachLink vs ws → IsKnown h vs r → IsKnown h ws r
-known-values h vs ws r links k = record {
+pub known-values : (h : History) (m n : ℕ) (vs ws : List Value) (r : Promise) → KeepsEachLink m n vs ws → r.value ≤ m → IsKnown h vs r → IsKnown h ws r
+known-values h m n vs ws r links old k = record {
   there = links.stays r.value k.there;
   made = k.made;
   state = k.state;
-  value = links.links r.value ∙ k.value;
+  value = links.links r.value (inl old) ∙ k.value;
   reactions = k.reactions;
 }
 
-pub kept-quiet : (h : History) (v : PromiseView) (made : ℕ) (values : List Value) (book : Book) → v.made ≤ made → KeepsEachLink v.values values → SameReactions v.book book
+pub kept-quiet : (h : History) (v : PromiseView) (made : ℕ) (values : List Value) (book : Book) → v.made ≤ made → KeepsEachLink v.made made v.values values → SameReactions v.book book
     → IsHistoryOf h v → IsHistoryOf h (record v { made = made; values = values; book = book })
 kept-quiet h v made values book grows links same k = record {
   below = All-weaker (λ (m : MadeDeferred). m.promise ≤ v.made) (λ m. m.promise ≤ made) (λ m is. omega (arith, is, grows)) h.made k.below;
   issued = k.issued;
   settled = k.settled;
   apart = k.apart;
-  unlinked = λ n above. links.links n ∙ k.unlinked n (omega (arith, above, grows));
+  unlinked = λ n above. links.links n (inr above) ∙ k.unlinked n (omega (arith, above, grows));
   deferreds = k.deferreds;
-  known = All-weaker (IsKnown h v.values) (IsKnown h values) (λ r is. known-values h v.values values r links is) v.promises.promises k.known;
+  known = All-weaker (IsKnown h v.values) (IsKnown h values)
+      (λ r is. known-values h v.made made v.values values r links (made-below h v k r.value is.made) is) v.promises.promises k.known;
   rise = k.rise;
   told = All-weaker (IsTold h (is_from_finals_on v.phase) v.promises v.book) (IsTold h (is_from_finals_on v.phase) v.promises book)
       (λ a is. told-book h (is_from_finals_on v.phase) v.promises v.book book a same is) h.added k.told;
@@ -213,7 +214,7 @@ module _ (h : History) (v : PromiseView) (n : ℕ) (k : IsHistoryOf h v) (fresh 
     promise = found-push (λ (m : MadeDeferred). m.promise) h.made (made_of n p) new-promise;
   }
 
-  links : KeepsEachLink v.values then.values
+  links : KeepsEachLink v.made v.made v.values then.values
   links = more-links v.values (linked_value p promise_tag None ∷ []) (All-cons (λ (w : Value). w.link ≡ None) _ [] refl (All-nil (λ (w : Value). w.link ≡ None)))
 
   more-made : (q : ℕ) → has (λ (m : MadeDeferred). m.promise) q h.made ≡ true → has (λ (m : MadeDeferred). m.promise) q now.made ≡ true
@@ -232,7 +233,7 @@ module _ (h : History) (v : PromiseView) (n : ℕ) (k : IsHistoryOf h v) (fresh 
     there = links.stays r.value it.there;
     made = more-made r.value it.made;
     state = it.state ∙ sym (ap (λ o. unwrap_or (option_map (λ (s : SettledDeferred). s.state) o) 0) (same-settlement r.value it.made));
-    value = links.links r.value ∙ it.value ∙ sym (ap (option_map (λ (s : SettledDeferred). s.value)) (same-settlement r.value it.made));
+    value = links.links r.value (inl (made-below h v k r.value it.made)) ∙ it.value ∙ sym (ap (option_map (λ (s : SettledDeferred). s.value)) (same-settlement r.value it.made));
     reactions = it.reactions;
   }
 
@@ -242,7 +243,7 @@ module _ (h : History) (v : PromiseView) (n : ℕ) (k : IsHistoryOf h v) (fresh 
         ∙ or_right (has (λ (w : Value). w.number) p v.values) _ (or_left (p == p) false (same-self p));
     made = has-of (λ (m : MadeDeferred). m.promise) p now.made (made_of n p) here.promise;
     state = sym (ap (λ o. unwrap_or (option_map (λ (s : SettledDeferred). s.state) o) 0) no-settlement);
-    value = links.links p ∙ k.unlinked p (omega arith) ∙ sym (ap (option_map (λ (s : SettledDeferred). s.value)) no-settlement);
+    value = links.links p (inr (omega arith)) ∙ k.unlinked p (omega arith) ∙ sym (ap (option_map (λ (s : SettledDeferred). s.value)) no-settlement);
     reactions = All-nil (λ t. added_under h.added t ≡ Some p);
   }
 
@@ -283,7 +284,7 @@ module _ (h : History) (v : PromiseView) (n : ℕ) (k : IsHistoryOf h v) (fresh 
           deferred = found-still (λ (m : MadeDeferred). m.deferred) m.deferred h.made (made_of n p ∷ []) m is.deferred;
           promise = found-still (λ (m : MadeDeferred). m.promise) m.promise h.made (made_of n p ∷ []) m is.promise;
         }) h.made k.apart) here;
-    unlinked = λ m above. links.links m ∙ k.unlinked m (omega (arith, above));
+    unlinked = λ m above. links.links m (inr (omega (arith, above))) ∙ k.unlinked m (omega (arith, above));
     deferreds = All-with_record (λ (d : Deferred). d.number) (record { number = n; promise = p }) (IsOpen now) (filter (λ d. not (d.promise == p)) v.promises.deferreds)
         (record { made = here.deferred; unsettled = new-settled })
         (All-filter (λ (d : Deferred). not (d.promise == p)) (IsOpen now) v.promises.deferreds

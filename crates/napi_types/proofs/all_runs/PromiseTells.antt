@@ -11,7 +11,7 @@ use Rattle.napi_types.specs.declared.status.Status.{Status}
 use Rattle.napi_types.specs.declared.status.Status.TheVariants as status
 use Rattle.napi_types.specs.plain.Guards.{is_guarded}
 use Rattle.napi_types.specs.plain.Lists.{found, has, has_number, is_empty}
-use Rattle.napi_types.specs.plain.Replies.{Answer, refuses}
+use Rattle.napi_types.specs.plain.Replies.{Answer, refuses, if_accepted}
 use Rattle.napi_types.specs.plain.Texts.{depth_text}
 use Rattle.napi_types.specs.parts.Attachments.{is_attached_to}
 use Rattle.napi_types.specs.parts.Bodies.{promise_tag}
@@ -36,7 +36,7 @@ use Rattle.napi_types.specs.environment.Refusals.{group_refusal, refusal_by_stat
 use Rattle.napi_types.specs.environment.Roots.{roots, reach}
 use Rattle.napi_types.specs.runs.Machine.{Machine}
 use Rattle.napi_types.specs.all_runs.SettledPromises as told
-use Rattle.napi_types.specs.all_runs.SettledPromises.{PromiseFact, AddedReaction, told_read, told_call, if_accepted, MayBeTold}
+use Rattle.napi_types.specs.all_runs.SettledPromises.{PromiseFact, AddedReaction, told_read, told_call, MayBeTold}
 use Rattle.napi_types.proofs.plain.Conditions.{true-or-false}
 use Rattle.napi_types.proofs.plain.Found.{found-number, found-All, has-found}
 use Rattle.napi_types.proofs.plain.Lists.{none-first, none-last, not-when, not-unless, find-passes, any-map, unempty}
@@ -78,7 +78,7 @@ guarded-early e c guarded none =
         absurd (true-or-false _ (ap (λ g. g && (is_some e.pending || is_tearing e.phase)) guarded
         ∙ or_right (is_some e.pending) (is_tearing e.phase) (late-tears e.phase is)) unguarded)
 
-own-none : (e : Environment) (c : Call) → refusal_before_depth e c ≡ None → group_refusal e c ≡ None
+pub own-none : (e : Environment) (c : Call) → refusal_before_depth e c ≡ None → group_refusal e c ≡ None
 own-none e c none =
     none-last (refusal_in e.texts e.heap c) (group_refusal e c) (none-last (refusal_by_moment e c) (refusal_by_state e c) none)
 
@@ -222,11 +222,11 @@ module _ (ts : List PromiseFact) (e : Environment) (k : IsHistoryOf (history ts)
       (λ n is. finalizer-other e.book n (tickets_where-holds (Finalizes e.book) e.attachments (HoldsAttached-from (Finalizes e.book) e.attachments hooked.attached) freed n is))) k
 
 -- EACH CALL
-pub if-none : (s : Status) → if_accepted s [] ≡ []
+pub if-none : {A : Type 0} (s : Status) → if_accepted {A = A} s [] ≡ []
 if-none status.Ok = refl
 if-none _ = refl
 
-refused-none : (s : Status) (xs : List PromiseFact) → s ≢ status.Ok → if_accepted s xs ≡ []
+pub refused-none : {A : Type 0} (s : Status) (xs : List A) → s ≢ status.Ok → if_accepted s xs ≡ []
 refused-none status.Ok xs never = absurd (never refl)
 refused-none _ xs never = refl
 
@@ -246,7 +246,7 @@ module _ (ts : List PromiseFact) (m : Machine) (k : IsHistoryOf (history ts) (vi
 
   effect-tells : (c : Call) (n : ℕ) → refusal_before_depth m.env c ≡ None → IsTrue (is_fresh_result m.env (effect m.env c n).reply.out) → CallKeeps c (effect m.env c n)
   effect-tells call.CreatePromise n none fresh =
-      makes-told ts m.env k n _ (new-number n m.env.promises.issued fresh) (new-handle (with_linked promise_tag m.env.heap) (m.env.heap.made + 1) stands fits)
+      makes-told ts m.env k n _ (new-number n m.env.promises.issued fresh) (new-handle (with_linked promise_tag None m.env.heap) (m.env.heap.made + 1) stands fits)
   effect-tells (call.ResolveDeferred d v) n none fresh =
       settling-tells ts m.env k d.0 (handle_value m.env.heap v.0) 0 (deferred_promise m.env.promises d.0) refl
       (not-unless (is_some (deferred_promise m.env.promises d.0)) status.InvalidArg (own-none m.env (call.ResolveDeferred d v) none))

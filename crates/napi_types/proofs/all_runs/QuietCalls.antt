@@ -11,19 +11,22 @@ use Rattle.napi_types.specs.declared.call.Call.{Call}
 use Rattle.napi_types.specs.declared.call.Call.TheVariants as call
 use Rattle.napi_types.specs.declared.entry.Cause.TheVariants as cause
 use Rattle.napi_types.specs.declared.ids.TextNo.{TextNo}
+use Rattle.napi_types.specs.declared.view.ViewInfo.{ViewInfo}
 use Rattle.napi_types.specs.plain.Replies.{Answer}
 use Rattle.napi_types.specs.parts.AsyncHooks.{AsyncHook, HookState, Set, async_hook, ticket_of_set, set_ticket}
 use Rattle.napi_types.specs.parts.Attachments.{wrap_ticket}
+use Rattle.napi_types.specs.parts.Bodies.{buffer_tag, view_tag}
 use Rattle.napi_types.specs.parts.Book.{Book, Registration, is_registered, is_at, made_withdrawn, moved, moved_at, with_registration, cause_at}
 use Rattle.napi_types.specs.parts.Frames.{caller_of}
 use Rattle.napi_types.specs.parts.Heap.{Heap, handle_value}
 use Rattle.napi_types.specs.parts.HeapCalls.{addon_effect}
-use Rattle.napi_types.specs.parts.HeapChanges.{new_value, with_thrown}
+use Rattle.napi_types.specs.parts.HeapChanges.{new_value, new_linked, with_thrown}
 use Rattle.napi_types.specs.parts.Hooks.{Hook, is_hook, hook_ticket}
 use Rattle.napi_types.specs.parts.InstanceData.{instance_ticket}
 use Rattle.napi_types.specs.parts.NewValues.{made_after, thrown_strings}
 use Rattle.napi_types.specs.parts.References.{referred_value}
-use Rattle.napi_types.specs.parts.Values.{Value}
+use Rattle.napi_types.specs.parts.Values.{Value, linked_value}
+use Rattle.napi_types.specs.environment.BufferCalls.{view_asked, making_view}
 use Rattle.napi_types.specs.environment.Calls.{effect}
 use Rattle.napi_types.specs.environment.Environment.{Environment}
 use Rattle.napi_types.specs.environment.Hooked.{StandsIn, IsForHook, IsHooked}
@@ -33,7 +36,7 @@ use Rattle.napi_types.specs.environment.Registering.{registered_only, withdrawin
 use Rattle.napi_types.proofs.parts.AttachedTickets.{HoldsAttached-from, wrap_ticket-holds}
 use Rattle.napi_types.proofs.environment.Effects.{Finalizes}
 use Rattle.napi_types.proofs.environment.HookedSteps.{instance-finalizes, found-holds}
-use Rattle.napi_types.proofs.all_runs.PromiseBooks.{SameReactions, same-reactions, both-same, push-same, others-same, KeepsEachLink, same-links, more-links, changed-links}
+use Rattle.napi_types.proofs.all_runs.PromiseBooks.{SameReactions, same-reactions, both-same, push-same, others-same, KeepsEachLink, same-links, more-links, more-linked, changed-links}
 use Rattle.napi_types.proofs.all_runs.PromiseHistory.{History}
 use Rattle.napi_types.proofs.all_runs.PromiseStates.{PromiseView, view, IsHistoryOf, kept-quiet}
 
@@ -41,7 +44,7 @@ use Rattle.napi_types.proofs.all_runs.PromiseStates.{PromiseView, view, IsHistor
 pub record Quiet (v w : PromiseView) : Type 0 where
   pub alone : w ≡ record v { made = w.made; values = w.values; book = w.book }
   pub grows : v.made ≤ w.made
-  pub links : KeepsEachLink v.values w.values
+  pub links : KeepsEachLink v.made w.made v.values w.values
   pub book : SameReactions v.book w.book
 
 pub quiet-kept : (h : History) (v w : PromiseView) → Quiet v w → IsHistoryOf h v → IsHistoryOf h w
@@ -50,7 +53,7 @@ quiet-kept h v w q k = subst (IsHistoryOf h) (sym q.alone) (kept-quiet h v w.mad
 pub quiet-same : (v : PromiseView) → Quiet v v
 quiet-same v = record { alone = refl; grows = omega arith; links = same-links v.values; book = same-reactions v.book }
 
-pub quiet-values : (v : PromiseView) (made : ℕ) (values : List Value) → v.made ≤ made → KeepsEachLink v.values values → Quiet v (record v { made = made; values = values })
+pub quiet-values : (v : PromiseView) (made : ℕ) (values : List Value) → v.made ≤ made → KeepsEachLink v.made made v.values values → Quiet v (record v { made = made; values = values })
 quiet-values v made values grows links = record { alone = refl; grows = grows; links = links; book = same-reactions v.book }
 
 pub quiet-book : (v w : PromiseView) (book : Book) → SameReactions w.book book → Quiet v w → Quiet v (record w { book = book })
@@ -130,12 +133,12 @@ made-unlinked n (b ∷ bs) = All-cons NoLink _ (made_after (n + 1) bs) refl (mad
 -- the heap after a call, told as what it keeps
 pub record HeapLinks (old new : Heap) : Type 0 where
   pub grows : old.made ≤ new.made
-  pub links : KeepsEachLink old.values new.values
+  pub links : KeepsEachLink old.made new.made old.values new.values
 
 one-more : (heap new : Heap) (w : Value) → NoLink w → new.made ≡ heap.made + 1 → new.values ≡ heap.values ++ w ∷ [] → HeapLinks heap new
 one-more heap new w is made values = record {
   grows = omega (arith, made);
-  links = subst (KeepsEachLink heap.values) (sym values) (more-links heap.values (w ∷ []) (one-unlinked w is));
+  links = subst (KeepsEachLink heap.made new.made heap.values) (sym values) (more-links heap.values (w ∷ []) (one-unlinked w is));
 }
 
 pub thrown-links : (heap : Heap) (code : Option TextNo) (message : TextNo) → HeapLinks heap (with_thrown code message heap)
@@ -143,6 +146,10 @@ thrown-links heap code message = record {
   grows = omega arith;
   links = more-links heap.values _ (All-push NoLink (made_after heap.made (thrown_strings code message)) _ (made-unlinked heap.made (thrown_strings code message)) refl);
 }
+
+-- a new value may have a link
+pub linked-links : (heap : Heap) (tag : ℕ) (to : Option ℕ) → HeapLinks heap (new_linked tag to heap).after
+linked-links heap tag to = record { grows = omega arith; links = more-linked heap.made heap.values (linked_value (heap.made + 1) tag to) refl }
 
 heap-links : (addon : ℕ) (heap : Heap) (c : Call) (k : ℕ) → HeapLinks heap (addon_effect addon heap c k).after
 heap-links addon heap (call.CreateFunction entry payload) k = one-more heap _ _ refl refl refl
@@ -185,6 +192,10 @@ module _ (e : Environment) where
   reading-quiet : (v : Option ℕ) → Quiet (view e) (view (reaction_told e v).after)
   reading-quiet None = quiet-same (view e)
   reading-quiet (Some v) = quiet-same (view e)
+
+  viewing-quiet : (about : Option ViewInfo) → Quiet (view e) (view (making_view e about).after)
+  viewing-quiet None = quiet-same (view e)
+  viewing-quiet (Some about) = quiet-heap e (new_linked view_tag (Some about.buffer.0) e.heap).after (linked-links e.heap view_tag (Some about.buffer.0))
 
   registered-quiet : (r : Registration) → r.cause ≢ cause.Reaction → Quiet (view e) (view (record e { book = with_registration r e.book }))
   registered-quiet r other = quiet-push (view e) (view e) r other (quiet-same (view e))
@@ -233,6 +244,17 @@ quiet-of e (call.ResolveDeferred d v) n h is = cc
 quiet-of e (call.RejectDeferred d v) n h is = cc
 quiet-of e (call.AddReaction x entry payload) n h is = cc
 quiet-of e call.GetReactionValue n h is = reading-quiet e (reaction_value e)
+quiet-of e (call.CreateArraybuffer size) n h is = quiet-heap e (new_linked buffer_tag None e.heap).after (linked-links e.heap buffer_tag None)
+quiet-of e (call.CreateExternalArraybuffer size payload entry hint) n h is =
+    let heap : Heap = (new_linked buffer_tag None e.heap).after in
+    quiet-push (view e) (view (record e { heap = heap })) _ (λ z. cc) (quiet-heap e heap (linked-links e.heap buffer_tag None))
+quiet-of e (call.IsArraybuffer x) n h is = quiet-same (view e)
+quiet-of e (call.IsDetachedArraybuffer x) n h is = quiet-same (view e)
+quiet-of e (call.GetArraybufferInfo x) n h is = quiet-same (view e)
+quiet-of e (call.DetachArraybuffer x) n h is = quiet-same (view e)
+quiet-of e (call.CreateTypedarray kind x offset count) n h is = viewing-quiet e (view_asked e.buffers kind (handle_value e.heap x.0) offset count)
+quiet-of e (call.GetView x at) n h is = quiet-same (view e)
+quiet-of e (call.SetView x at number) n h is = quiet-same (view e)
 quiet-of e call.Collect n h is = cc
 quiet-of e call.Exit n h is = quiet-same (view e)
 quiet-of e c n h is = quiet-heap e (addon_effect (caller_of e.frames) e.heap c n).after (heap-links (caller_of e.frames) e.heap c n)

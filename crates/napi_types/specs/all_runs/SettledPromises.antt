@@ -16,9 +16,8 @@ use Rattle.napi_types.specs.declared.entry.Out.TheVariants as out
 use Rattle.napi_types.specs.declared.entry.Reply.{Reply}
 use Rattle.napi_types.specs.declared.entry.What.{What}
 use Rattle.napi_types.specs.declared.entry.What.TheVariants as what
-use Rattle.napi_types.specs.declared.status.Status.{Status}
-use Rattle.napi_types.specs.declared.status.Status.TheVariants as status
 use Rattle.napi_types.specs.plain.Lists.{found, has, has_number, head, tail}
+use Rattle.napi_types.specs.plain.Replies.{if_accepted}
 use Rattle.napi_types.specs.parts.Frames.{duty_of, ticket_of}
 use Rattle.napi_types.specs.parts.Heap.{Heap, handle_value}
 use Rattle.napi_types.specs.environment.PromiseCalls.{resolved, rejected}
@@ -64,11 +63,6 @@ told_call m (call.RejectDeferred d h) r n = Settles d.0 rejected (handle_value m
 told_call m (call.AddReaction h entry payload) r n = told_added (handle_value m.env.heap h.0) r.made
 told_call m call.GetReactionValue r n = told_read (ticket_of (duty_of m.env.frames)) n.env.heap r.out
 told_call m c r n = []
-
--- a call that was refused tells nothing
-abbrev pub if_accepted : Status → List PromiseFact → List PromiseFact
-if_accepted status.Ok told = told
-if_accepted s told = []
 
 -- the state that a duty gives to the frame of a reaction: its second gift
 abbrev pub state_given : DueInfo → ℕ
