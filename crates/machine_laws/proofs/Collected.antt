@@ -21,6 +21,15 @@ use Rattle.machine_laws.proofs.Counting.{Within, within-map, count-cons, issued-
 use Rattle.machine_laws.proofs.ConsistentHeaps.{IsConsistentHeap}
 use Rattle.machine_laws.proofs.LiveNumbers.{all-there}
 
+-- a test that does not fail passes
+pub passes-stay : (b : Bool) → not (not b) ≡ true → b ≡ true
+passes-stay true is = refl
+passes-stay false is = cc
+
+pub passes-twice : (b : Bool) → b ≡ true → not (not b) ≡ true
+passes-twice true is = refl
+passes-twice false is = cc
+
 -- LISTS
 pub within-filter : {A : Type 0} (p : A → Bool) (xs : List A) → Within (filter p xs) xs []
 within-filter p [] q = omega arith

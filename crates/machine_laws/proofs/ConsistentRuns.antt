@@ -13,6 +13,7 @@ use Rattle.machine_laws.specs.Consistency.{AreIssued, IsConsistent, IsLiveAmong}
 use Rattle.machine_laws.specs.HandleLaws.{EnvironmentsAreConsistent}
 use Rattle.napi_types.proofs.all_runs.Orderly.{orderly-opens}
 use Rattle.napi_types.proofs.plain.Tallies.{tally-append}
+use Rattle.machine_laws.proofs.BuffersFit.{no-buffers-fit}
 use Rattle.machine_laws.proofs.Children.{OfChildren}
 use Rattle.machine_laws.proofs.Counting.{none-issued, issued-next}
 use Rattle.machine_laws.proofs.ConsistentAnswers.{whole-of}
@@ -22,6 +23,7 @@ use Rattle.machine_laws.proofs.Prefixes.{steps-prefix}
 use Rattle.machine_laws.proofs.LiveNumbers.{all-there}
 use Rattle.machine_laws.proofs.PromiseMaps.{none-promised}
 use Rattle.machine_laws.proofs.Rising.{none-map}
+use Rattle.machine_laws.proofs.SoundBuffers.{none-sound}
 
 -- THE OPENING
 issued-pushed : (last : ℕ) (ns : List ℕ) → AreIssued last ns → AreIssued (last + 1) (ns ++ (last + 1) ∷ [])
@@ -62,7 +64,8 @@ opening-consistent given =
       pending = tt;
       rooted = λ k d below. absurd (omega (arith, below));
       promises = none-promised starting_values;
-    }) refl (omega arith)
+      buffers = no-buffers-fit starting_values;
+    }) (none-sound e.attachments) refl (omega arith)
 
 -- RUNS
 pub environments-are-consistent : EnvironmentsAreConsistent

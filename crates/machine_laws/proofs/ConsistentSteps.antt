@@ -49,7 +49,7 @@ use Rattle.napi_types.proofs.runs.Forms as form
 use Rattle.napi_types.proofs.runs.Forms.{Form, form-of}
 use Rattle.napi_types.proofs.runs.Runs.{along-entries}
 use Rattle.napi_types.proofs.runs.SharedSteps.{after_shared-alone}
-use Rattle.machine_laws.specs.Consistency.{IsConsistent, IsLiveAmong, ArePromisesOf}
+use Rattle.machine_laws.specs.Consistency.{IsConsistent, IsLiveAmong, ArePromisesOf, AreBuffersOf, AreSoundBuffers}
 use Rattle.machine_laws.proofs.ConsistentAnswers.{IsConsistentButFrames, LeadsToConsistent, parts-of, whole-of, in-heap, call_change-follows}
 use Rattle.machine_laws.proofs.ConsistentCalls.{handle-live}
 use Rattle.machine_laws.proofs.ConsistentHeaps.{IsConsistentHeap, ComesTo, HandlesStay, stays, stays-then, and-then, unchanged, with-handle, with-frame, without-frame}
@@ -69,11 +69,13 @@ then-follows : (a b c : Environment) → LeadsToConsistent a b → LeadsToConsis
 then-follows a b c one two = record { good = two.good; stay = stays-then a.heap b.heap c.heap one.stay two.stay }
 
 -- THE END OF A FRAME
--- a frame ends, its heap is left for another, an exception that is pending may be cleared, and the registry may change, where its promises fit the values
-ended-follows : (e : Environment) (heap : Heap) (pending : Option ℕ) (s : Status) (r : Registry) → ArePromisesOf heap.values r.promises → IsConsistent e
-    → ComesTo e.heap heap → length heap.scopes ≡ length (tail e.heap.scopes) → IsConsistentButFrames (record e { heap = heap; pending = pending })
+-- a frame ends, its heap is left for another, an exception that is pending may be cleared, and the registry may change, where its promises fit the values, and
+-- its buffers and what is attached stay
+ended-follows : (e : Environment) (heap : Heap) (pending : Option ℕ) (s : Status) (r : Registry) → ArePromisesOf heap.values r.promises
+    → AreBuffersOf heap.values r.buffers → AreSoundBuffers r.attachments r.buffers → IsConsistent e → ComesTo e.heap heap
+    → length heap.scopes ≡ length (tail e.heap.scopes) → IsConsistentButFrames (record e { heap = heap; pending = pending })
     → LeadsToConsistent e (record (with_registry e r) { heap = heap; frames = tail e.frames; pending = pending; last = s })
-ended-follows e heap pending s r fit c comes same g =
+ended-follows e heap pending s r fit bytes sound c comes same g =
     let new : Environment = record (with_registry e r) { heap = heap; frames = tail e.frames; pending = pending; last = s } in
     let good : IsConsistentButFrames new = record {
       heap = g.heap;
@@ -82,9 +84,10 @@ ended-follows e heap pending s r fit c comes same g =
       pending = g.pending;
       rooted = g.rooted;
       promises = fit;
+      buffers = bytes;
     } in
     record {
-      good = whole-of new good (same ∙ length-tail e.heap.scopes e.frames c.frames) (omega (arith, tail-shorter e.frames, c.depth));
+      good = whole-of new good sound (same ∙ length-tail e.heap.scopes e.frames c.frames) (omega (arith, tail-shorter e.frames, c.depth));
       stay = comes.stay;
     }
 
@@ -93,8 +96,16 @@ kept-ended : (e : Environment) (heap : Heap) (s : Status) → IsConsistent e →
     → length heap.scopes ≡ length (tail e.heap.scopes) → LeadsToConsistent e (record e { heap = heap; frames = tail e.frames; last = s })
 kept-ended e heap s c comes links same =
     let g : IsConsistentButFrames (record e { heap = heap }) = (in-heap e heap (parts-of e c) comes links).good in
-    ended-follows e heap e.pending s (registry_of e) g.promises c comes same
-    (record { heap = g.heap; referred = g.referred; references = g.references; pending = g.pending; rooted = g.rooted; promises = g.promises })
+    ended-follows e heap e.pending s (registry_of e) g.promises g.buffers c.sound c comes same
+    (record {
+      heap = g.heap;
+      referred = g.referred;
+      references = g.references;
+      pending = g.pending;
+      rooted = g.rooted;
+      promises = g.promises;
+      buffers = g.buffers;
+    })
 
 left-live : (e : Environment) (v : Option HandleId) → IsConsistentHeap e.heap → IsLiveAmong e.heap.values (left_value e.heap v)
 left-live e None g = g.starting 0 0 (omega arith)
@@ -114,8 +125,16 @@ outermost-follows cut e c =
     let g : IsConsistentButFrames (record e { heap = without_frame e.heap }) = (in-heap e (without_frame e.heap) (parts-of e c) left (λ n live. refl)).good in
     let fit : ArePromisesOf e.heap.values (reaction_ended (duty_of e.frames) e.promises) =
     ended-promised (duty_of e.frames) e.heap.values e.promises g.promises in
-    ended-follows e (without_frame e.heap) None e.last (registry_ended (duty_of e.frames) (registry_of e)) fit c left refl
-    (record { heap = g.heap; referred = g.referred; references = g.references; pending = tt; rooted = g.rooted; promises = g.promises })
+    ended-follows e (without_frame e.heap) None e.last (registry_ended (duty_of e.frames) (registry_of e)) fit g.buffers c.sound c left refl
+    (record {
+      heap = g.heap;
+      referred = g.referred;
+      references = g.references;
+      pending = tt;
+      rooted = g.rooted;
+      promises = g.promises;
+      buffers = g.buffers;
+    })
 
 frame-follows : (v : Option HandleId) (cut : Option Why) (e : Environment) → IsConsistent e → LeadsToConsistent e (end_change v cut e).after
 frame-follows v cut e c =
@@ -161,11 +180,12 @@ enter_change-follows e receiver f args h c =
       pending = led.pending;
       rooted = led.rooted;
       promises = led.promises;
+      buffers = led.buffers;
     } in
     let asks : length (ask_counted e.frames) ≡ length e.frames = length-changed _ e.frames in
     let scopes : length heap.scopes ≡ length (with_frame e.heap).scopes = length-receiver (with_frame e.heap) receiver in
     record {
-      good = whole-of new good (omega (arith, scopes, c.frames, asks)) (omega (arith, below-limit e receiver f args h, asks));
+      good = whole-of new good c.sound (omega (arith, scopes, c.frames, asks)) (omega (arith, below-limit e receiver f args h, asks));
       stay = comes.stay;
     }
 
@@ -175,10 +195,12 @@ asked-follows e c k hooked old =
     (λ receiver f args none. enter_change-follows e receiver f args none old)
 
 -- EVENTS WHERE NO FRAME STANDS
--- what is neither heap, references, pending exception nor frames may change
-other-follows : (e new : Environment) → IsConsistentButFrames new → length new.heap.scopes ≡ length e.heap.scopes → length new.frames ≡ length e.frames
+-- what is neither heap, references, pending exception, buffers, attachments nor frames may change
+other-follows : (e new : Environment) → IsConsistentButFrames new → AreSoundBuffers new.attachments new.buffers
+    → length new.heap.scopes ≡ length e.heap.scopes → length new.frames ≡ length e.frames
     → HandlesStay e.heap new.heap → IsConsistent e → LeadsToConsistent e new
-other-follows e new g scopes frames stay c = record { good = whole-of new g (scopes ∙ c.frames ∙ sym frames) (omega (arith, frames, c.depth)); stay = stay }
+other-follows e new g sound scopes frames stay c =
+    record { good = whole-of new g sound (scopes ∙ c.frames ∙ sym frames) (omega (arith, frames, c.depth)); stay = stay }
 
 -- an outermost frame begins, and addons that had theirs, the book and the hooks may change
 begun-follows : (e : Environment) (inits : ℕ) (book : Book) (hooks : List Hook) (others : List AsyncHook) (f : Frame) → e.frames ≡ [] → IsConsistent e
@@ -195,8 +217,9 @@ begun-follows e inits book hooks others f none c =
       pending = led.pending;
       rooted = led.rooted;
       promises = led.promises;
+      buffers = led.buffers;
     } in
-    record { good = whole-of new good (ap suc c.frames) (omega (arith, ap length none)); stay = frame.stay }
+    record { good = whole-of new good c.sound (ap suc c.frames) (omega (arith, ap length none)); stay = frame.stay }
 
 -- A SHARED CALL
 -- a new thread-safe function keeps a live value
@@ -222,8 +245,9 @@ rooted-follows e new roots all follows same =
       pending = g.pending;
       rooted = live;
       promises = g.promises;
+      buffers = g.buffers;
     } in
-    record { good = whole-of (record new { tsfn_roots = roots }) good follows.good.frames follows.good.depth; stay = follows.stay }
+    record { good = whole-of (record new { tsfn_roots = roots }) good follows.good.sound follows.good.frames follows.good.depth; stay = follows.stay }
 
 noted-follows : (e : Environment) (c : Call) (s : Status) → IsConsistent e → LeadsToConsistent e (with_noted_status c s e)
 noted-follows e c s old =
@@ -235,8 +259,9 @@ noted-follows e c s old =
       pending = g.pending;
       rooted = g.rooted;
       promises = g.promises;
+      buffers = g.buffers;
     } in
-    other-follows e (with_noted_status c s e) good refl (length-changed _ e.frames) (stays e.heap) old
+    other-follows e (with_noted_status c s e) good old.sound refl (length-changed _ e.frames) (stays e.heap) old
 
 shared-follows : (e : Environment) (c : Call) (r : Reply) → IsConsistent e → LeadsToConsistent e (after_shared c r e)
 shared-follows e c r old =
@@ -258,8 +283,9 @@ phase-follows e p c =
       pending = g.pending;
       rooted = g.rooted;
       promises = g.promises;
+      buffers = g.buffers;
     } in
-    other-follows e (in_phase p e) good refl refl (stays e.heap) c
+    other-follows e (in_phase p e) good c.sound refl refl (stays e.heap) c
 
 ticket-follows : (m : Machine) (n : ℕ) (r : Option Registration) → m.env.frames ≡ [] → IsConsistent m.env → StepFollows m (ticket_step m n r)
 ticket-follows m n None none c = same-follows m.env c
@@ -286,8 +312,9 @@ event-follows m Opens none c =
       pending = g.pending;
       rooted = g.rooted;
       promises = g.promises;
+      buffers = g.buffers;
     } in
-    other-follows m.env (opening_change m.env).after good refl refl (stays m.env.heap) c
+    other-follows m.env (opening_change m.env).after good c.sound refl refl (stays m.env.heap) c
 event-follows m (Inits n) none c = begun-follows m.env (m.env.inits + 1) m.env.book m.env.hooks m.env.async_hooks (frame_of cause.Init n 0) none c
 event-follows m (Tickets n) none c = ticket-follows m n (registration_at m.env.book n) none c
 event-follows m (Moves move) none c = move-follows m move none c
@@ -302,8 +329,9 @@ event-follows m Abandons none c =
       pending = g.pending;
       rooted = g.rooted;
       promises = g.promises;
+      buffers = g.buffers;
     } in
-    other-follows m.env (with_none_waiting m.env) good refl refl (stays m.env.heap) c
+    other-follows m.env (with_none_waiting m.env) good c.sound refl refl (stays m.env.heap) c
 event-follows m Drains none c = phase-follows m.env phase.Drain c
 event-follows m FinalsCome none c = phase-follows m.env phase.Finals c
 event-follows m IsGone none c =
@@ -315,8 +343,9 @@ event-follows m IsGone none c =
       pending = g.pending;
       rooted = g.rooted;
       promises = g.promises;
+      buffers = g.buffers;
     } in
-    other-follows m.env (gone_change m.env).after good refl refl (stays m.env.heap) c
+    other-follows m.env (gone_change m.env).after good c.sound refl refl (stays m.env.heap) c
 
 call-step-follows : (m : Machine) (c : Call) (o : Out) (b : Bool) → IsHooked m.env → IsConsistent m.env → StepFollows m (call_step_on b m c o)
 call-step-follows m c o false hooked old = asked-follows m.env c (issued_number o) hooked old

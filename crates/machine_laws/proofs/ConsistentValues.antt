@@ -1,5 +1,5 @@
 -- Good heaps stay good as values are made and changed.
-use Rattle.std.proofs.Common.{◌≡◌, arith, ℕ, ◌+◌, true, List, [], ◌∷◌, ◌++◌, length, refl, sym, subst, Option, Some, None, option_map}
+use Rattle.std.proofs.Common.{◌≡◌, arith, ℕ, ◌+◌, true, List, [], ◌∷◌, ◌++◌, length, refl, sym, subst, Option, Some, None, option_map, option_to_list}
 use Rattle.std.specs.List.{All, range_with_len}
 use Rattle.std.specs.Option.{IfSome}
 use Rattle.std.proofs.lemmas.List.{append-nil, append_assoc}
@@ -53,17 +53,26 @@ with-new heap b g =
     and-then heap (with_value b heap) (with_handle (heap.made + 1) (with_value b heap)) made
     (with-handle (with_value b heap) (heap.made + 1) made.good (live-pushed heap.values (fresh_value (heap.made + 1) b)))
 
--- a new linked value, ..
-pub with-linked-value : (heap : Heap) (tag : ℕ) → IsConsistentHeap heap → ComesTo heap (with_linked tag heap)
-with-linked-value heap tag g = with-pushed heap (linked_value (heap.made + 1) tag None) refl (All-nil (IsLiveAmong (with_linked tag heap).values)) g
+-- a new linked value, whose child is live where it has one, ..
+pub with-linked-value : (heap : Heap) (tag : ℕ) (to : Option ℕ) → IfSome to (IsLiveAmong heap.values) → IsConsistentHeap heap
+    → ComesTo heap (with_linked tag to heap)
+with-linked-value heap tag to known g = with-pushed heap (linked_value (heap.made + 1) tag to) refl (of-child to known) g
+  where
+    of-child : (o : Option ℕ) → IfSome o (IsLiveAmong heap.values)
+        → All (IsLiveAmong (heap.values ++ linked_value (heap.made + 1) tag to ∷ [])) (option_to_list o)
+    of-child None h = All-nil (IsLiveAmong (with_linked tag to heap).values)
+    of-child (Some n) h =
+        All-cons (IsLiveAmong (with_linked tag to heap).values) n [] (live-more n heap.values (linked_value (heap.made + 1) tag to ∷ []) h)
+        (All-nil (IsLiveAmong (with_linked tag to heap).values))
 
 -- .. and its handle
-pub with-new-linked : (heap : Heap) (tag : ℕ) → IsConsistentHeap heap → ComesTo heap (with_handle (heap.made + 1) (with_linked tag heap))
-with-new-linked heap tag g =
-    let x : Value = linked_value (heap.made + 1) tag None in
-    let made : ComesTo heap (with_linked tag heap) = with-linked-value heap tag g in
-    and-then heap (with_linked tag heap) (with_handle (heap.made + 1) (with_linked tag heap)) made
-    (with-handle (with_linked tag heap) (heap.made + 1) made.good (live-pushed heap.values x))
+pub with-new-linked : (heap : Heap) (tag : ℕ) (to : Option ℕ) → IfSome to (IsLiveAmong heap.values) → IsConsistentHeap heap
+    → ComesTo heap (with_handle (heap.made + 1) (with_linked tag to heap))
+with-new-linked heap tag to known g =
+    let x : Value = linked_value (heap.made + 1) tag to in
+    let made : ComesTo heap (with_linked tag to heap) = with-linked-value heap tag to known g in
+    and-then heap (with_linked tag to heap) (with_handle (heap.made + 1) (with_linked tag to heap)) made
+    (with-handle (with_linked tag to heap) (heap.made + 1) made.good (live-pushed heap.values x))
 
 -- a value that is changed
 pub with-one-changed : (heap : Heap) (n : ℕ) (change : Value → Value) → KeepsChildren (IsLiveAmong heap.values) change → IsConsistentHeap heap

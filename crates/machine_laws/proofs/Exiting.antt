@@ -63,6 +63,7 @@ asked-ignored = record {
   hooks = λ d x. refl;
   async_hooks = λ d x. refl;
   promises = λ d x. refl;
+  buffers = λ d x. refl;
   instances = λ d x. refl;
   pending = λ d x. refl;
   last = λ d x. refl;

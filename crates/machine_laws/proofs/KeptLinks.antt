@@ -1,5 +1,5 @@
 -- The links of values, as values are made, changed and collected: none but that of a promise that is settled changes.
-use Rattle.std.proofs.Common.{◌≡◌, ◌∙◌, ◌<◌, ℕ, ◌==◌, ◌||◌, Bool, true, false, cond, List, [], ◌∷◌, ◌++◌, refl, ap, Option, Some, None, option_map}
+use Rattle.std.proofs.Common.{◌≡◌, ◌∙◌, ◌<◌, ℕ, ◌==◌, ◌||◌, Bool, true, false, cond, List, [], ◌∷◌, ◌++◌, refl, ap, sym, Option, Some, None, option_map}
 use Rattle.std.specs.List.{All}
 use Rattle.std.specs.Option.{option_and_then}
 use Rattle.std.proofs.lemmas.List.Elements.{All-head, All-tail}
@@ -12,12 +12,19 @@ use Rattle.napi_types.specs.parts.HeapCalls.{addon_effect}
 use Rattle.napi_types.specs.parts.HeapChanges.{with_thrown}
 use Rattle.napi_types.specs.parts.Reach.{numbers}
 use Rattle.napi_types.specs.parts.Values.{Value, value_at, value_changed, linked_value, link_of, with_link, those_of}
-use Rattle.napi_types.proofs.plain.Found.{apart-below, found-changed, found-filter, found-number, same-self}
+use Rattle.napi_types.proofs.plain.Found.{apart-below, found-changed, found-filter, found-number, same-self, same-tells}
 use Rattle.machine_laws.specs.Consistency.{IsLiveAmong}
 
 -- what was live has the link that it had
 abbrev pub KeepsLinks : List Value → List Value → Type 0
 KeepsLinks old new = (n : ℕ) → IsLiveAmong old n → link_of new n ≡ link_of old n
+
+-- what was live and had a link has it
+abbrev pub HasLinksOf : List Value → List Value → Type 0
+HasLinksOf old new = (n m : ℕ) → IsLiveAmong old n → link_of old n ≡ Some m → link_of new n ≡ Some m
+
+pub links-kept : (old new : List Value) → KeepsLinks old new → HasLinksOf old new
+links-kept old new keeps n m live is = keeps n live ∙ is
 
 abbrev value_number : Value → ℕ
 value_number v = v.number
@@ -35,11 +42,11 @@ links-more (v ∷ vs) ws n live = by (v.number == n) refl live (links-more vs ws
     by true same there later = rw same refl
     by false other there later = rw other (later there)
 
--- a new linked value has none
-pub link-none : (n tag : ℕ) (vs : List Value) → All (λ k. k < n) (numbers vs) → link_of (vs ++ linked_value n tag None ∷ []) n ≡ None
-link-none n tag [] below = rw (same-self n) refl
-link-none n tag (v ∷ vs) below =
-    rw (apart-below v.number n (All-head (λ k. k < n) v.number (numbers vs) below)) (link-none n tag vs (All-tail (λ k. k < n) v.number (numbers vs) below))
+-- a new linked value has the one that it is made with
+pub link-new : (n tag : ℕ) (to : Option ℕ) (vs : List Value) → All (λ k. k < n) (numbers vs) → link_of (vs ++ linked_value n tag to ∷ []) n ≡ to
+link-new n tag to [] below = rw (same-self n) refl
+link-new n tag to (v ∷ vs) below =
+    rw (apart-below v.number n (All-head (λ k. k < n) v.number (numbers vs) below)) (link-new n tag to vs (All-tail (λ k. k < n) v.number (numbers vs) below))
 
 -- VALUES THAT ARE CHANGED
 -- one value keeps its number and its link
@@ -92,6 +99,14 @@ module _ (k to : ℕ) where
       by : (o : Option Value) → value_at vs n ≡ o → option_and_then value_link (option_map relinked o) ≡ option_and_then value_link o
       by None is = refl
       by (Some v) is = ap (λ b. (cond b (with_link to v) v).link) (ap (λ m. m == k) (found-number value_number n vs v is) ∙ other)
+
+-- a value that had none gets one: each that had one has it
+pub linked-others : (k to : ℕ) (vs : List Value) → link_of vs k ≡ None → HasLinksOf vs (value_changed k (with_link to) vs)
+linked-others k to vs none n m live is = by (n == k) refl
+  where
+    by : (b : Bool) → (n == k) ≡ b → link_of (value_changed k (with_link to) vs) n ≡ Some m
+    by true same = let no : None ≡ Some m = sym none ∙ ap (link_of vs) (sym (same-tells n k same)) ∙ is in cc
+    by false other = link-other k to n vs other ∙ is
 
 -- VALUES THAT STAY
 pub link-stays : (alive : List ℕ) (n : ℕ) (vs : List Value) → has_number n alive ≡ true → link_of (those_of alive vs) n ≡ link_of vs n

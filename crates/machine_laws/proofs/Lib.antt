@@ -1,6 +1,7 @@
 mod AskLists
 mod Bare
 mod BeginningFrames
+mod BuffersFit
 mod Causes
 mod Children
 mod Choosing
@@ -31,6 +32,8 @@ mod Reactions
 mod Rising
 mod RowLists
 mod Settling
+mod SoundBuffers
+mod SoundCalls
 mod StableHandles
 mod StandingMachines
 mod Unordered

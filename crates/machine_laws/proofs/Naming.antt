@@ -10,12 +10,11 @@ use Rattle.napi_types.specs.declared.status.Status.{Status}
 use Rattle.napi_types.specs.plain.Lists.{has_number}
 use Rattle.napi_types.specs.parts.HeapRefusals.{refusal_in}
 use Rattle.napi_types.specs.parts.ReferenceRefusals.{reference_refusal}
+use Rattle.napi_types.specs.environment.BufferCalls.{buffer_refusal}
 use Rattle.napi_types.specs.environment.Environment.{Environment}
 use Rattle.napi_types.specs.environment.HookCalls.{hook_refusal}
 use Rattle.napi_types.specs.environment.PromiseCalls.{promise_refusal}
-use Rattle.napi_types.specs.environment.ReferenceCalls.{referring_refusal}
 use Rattle.napi_types.specs.environment.Refusals.{refusal_by_state}
-use Rattle.napi_types.specs.environment.WrapCalls.{attachment_refusal}
 use Rattle.napi_types.proofs.plain.Lists.{option_or-none}
 use Rattle.machine_laws.specs.CallLaws.{attached_refusal, NamesHooksAlone, ReferencesAreNamedAlone, HooksAreNamedAlone}
 
@@ -41,14 +40,13 @@ on-references e c unhooked unattached alone =
       order = alone ∙ sym (ap (λ o. option_or o (hook_refusal e c)) within ∙ ap (option_or r) unhooked ∙ option_or-none r);
     }
 
--- a call that nothing but the heap and the promises can refuse
-on-promises : (e : Environment) (c : Call) → hook_refusal e c ≡ None → reference_refusal e.references c ≡ None
-    → option_or (referring_refusal e c) (attachment_refusal e.attachments e.heap c) ≡ None
-    → refusal_by_state e c ≡ option_or (refusal_in e.texts e.heap c) (promise_refusal e c) → NamesHooksAlone e c
-on-promises e c unhooked unreferred unattached alone =
-    let p : Option Status = promise_refusal e c in
-    let within : attached_refusal e c ≡ option_or (refusal_in e.texts e.heap c) p =
-    ap (λ o. option_or (refusal_in e.texts e.heap c) (option_or p o)) unattached ∙ ap (option_or (refusal_in e.texts e.heap c)) (option_or-none p) in
+-- a call that nothing but the heap and its own group can refuse
+on-own : (e : Environment) (c : Call) (own : Option Status) → hook_refusal e c ≡ None → reference_refusal e.references c ≡ None
+    → attached_refusal e c ≡ option_or (refusal_in e.texts e.heap c) (option_or own None)
+    → refusal_by_state e c ≡ option_or (refusal_in e.texts e.heap c) own → NamesHooksAlone e c
+on-own e c own unhooked unreferred attached alone =
+    let within : attached_refusal e c ≡ option_or (refusal_in e.texts e.heap c) own =
+    attached ∙ ap (option_or (refusal_in e.texts e.heap c)) (option_or-none own) in
     let same : option_or (reference_refusal e.references c) (attached_refusal e c) ≡ refusal_by_state e c =
     ap (λ o. option_or o (attached_refusal e c)) unreferred ∙ within ∙ sym alone in
     record {
@@ -56,6 +54,17 @@ on-promises e c unhooked unreferred unattached alone =
       first = sym (ap (λ o. option_or o (option_or (reference_refusal e.references c) (attached_refusal e c))) unhooked ∙ same);
       order = sym (ap (λ o. option_or o (hook_refusal e c)) same ∙ ap (option_or (refusal_by_state e c)) unhooked ∙ option_or-none (refusal_by_state e c));
     }
+
+-- by the promises, and by the buffers
+on-promises : (e : Environment) (c : Call) → hook_refusal e c ≡ None → reference_refusal e.references c ≡ None
+    → attached_refusal e c ≡ option_or (refusal_in e.texts e.heap c) (option_or (promise_refusal e c) None)
+    → refusal_by_state e c ≡ option_or (refusal_in e.texts e.heap c) (promise_refusal e c) → NamesHooksAlone e c
+on-promises e c unhooked unreferred attached alone = on-own e c (promise_refusal e c) unhooked unreferred attached alone
+
+on-buffers : (e : Environment) (c : Call) → hook_refusal e c ≡ None → reference_refusal e.references c ≡ None
+    → attached_refusal e c ≡ option_or (refusal_in e.texts e.heap c) (option_or (buffer_refusal e c) None)
+    → refusal_by_state e c ≡ option_or (refusal_in e.texts e.heap c) (buffer_refusal e c) → NamesHooksAlone e c
+on-buffers e c unhooked unreferred attached alone = on-own e c (buffer_refusal e c) unhooked unreferred attached alone
 
 pub hooks-alone : HooksAreNamedAlone
 hooks-alone e (call.AddEnvCleanupHook entry argument) = record {
@@ -82,6 +91,14 @@ hooks-alone e (call.ResolveDeferred d v) = on-promises e (call.ResolveDeferred d
 hooks-alone e (call.RejectDeferred d v) = on-promises e (call.RejectDeferred d v) refl refl refl refl
 hooks-alone e (call.AddReaction h entry payload) = on-promises e (call.AddReaction h entry payload) refl refl refl refl
 hooks-alone e call.GetReactionValue = on-promises e call.GetReactionValue refl refl refl refl
+hooks-alone e (call.CreateArraybuffer size) = on-buffers e (call.CreateArraybuffer size) refl refl refl refl
+hooks-alone e (call.CreateExternalArraybuffer size payload entry hint) =
+    on-buffers e (call.CreateExternalArraybuffer size payload entry hint) refl refl refl refl
+hooks-alone e (call.GetArraybufferInfo h) = on-buffers e (call.GetArraybufferInfo h) refl refl refl refl
+hooks-alone e (call.DetachArraybuffer h) = on-buffers e (call.DetachArraybuffer h) refl refl refl refl
+hooks-alone e (call.CreateTypedarray kind h offset count) = on-buffers e (call.CreateTypedarray kind h offset count) refl refl refl refl
+hooks-alone e (call.GetView h at) = on-buffers e (call.GetView h at) refl refl refl refl
+hooks-alone e (call.SetView h at number) = on-buffers e (call.SetView h at number) refl refl refl refl
 hooks-alone e c = record { alone = inl refl; first = refl; order = sym (option_or-none (option_or (reference_refusal e.references c) (attached_refusal e c))) }
 
 -- one of the list fails the test, so not all pass it

@@ -17,7 +17,7 @@ use Rattle.napi_types.proofs.plain.Found.{found-All, found-changed, found-filter
 use Rattle.napi_types.proofs.plain.Maps.{All-with_record}
 use Rattle.napi_types.proofs.plain.Tallies.{tally-append}
 use Rattle.machine_laws.specs.Consistency.{ArePromisesOf, IsLiveAmong, IsPromiseMap, reactions_in}
-use Rattle.machine_laws.proofs.Collected.{kept, live-reached, of-each, within-filter}
+use Rattle.machine_laws.proofs.Collected.{kept, live-reached, of-each, passes-stay, within-filter}
 use Rattle.machine_laws.proofs.KeptLinks.{KeepsLinks, link-other, link-set, link-stays}
 use Rattle.machine_laws.proofs.Counting.{Within, count-cons, distinct-from, distinct-times, one_when, times, within-map}
 use Rattle.machine_laws.proofs.Reactions.{AreBelow, RiseIn, ended_promise, fewer-ended, reacting_promise, rise-ended, rise-reacting, times-left, times-made, times-reacting, times-remade, times_in}
@@ -36,10 +36,6 @@ deferred_value d = d.promise
 passes-not : (b : Bool) → not b ≡ true → b ≡ false
 passes-not false is = refl
 passes-not true is = cc
-
-passes-stay : (b : Bool) → not (not b) ≡ true → b ≡ true
-passes-stay true is = refl
-passes-stay false is = cc
 
 -- LISTS
 -- a finite map with one record more has no more of anything than the others and this one
@@ -205,6 +201,16 @@ IsLinkedAmong vs r = r.state ≢ 0 → IsSome (link_of vs r.value)
 
 abbrev IsUnlinkedAmong : List Value → Deferred → Type 0
 IsUnlinkedAmong vs d = link_of vs d.promise ≡ None
+
+-- so has the promise of a deferred
+pub unsettled-link : (n v : ℕ) (vs : List Value) (p : Promises) → deferred_promise p n ≡ Some v → ArePromisesOf vs p → link_of vs v ≡ None
+unsettled-link n v vs p is h = by (found deferred_number n p.deferreds) refl is
+  where
+    by : (o : Option Deferred) → found deferred_number n p.deferreds ≡ o → option_map deferred_value o ≡ Some v → link_of vs v ≡ None
+    by None here told = cc
+    by (Some d) here told =
+        let it : d.promise ≡ v = cc in
+        subst (λ m. link_of vs m ≡ None) it (found-All deferred_number (IsUnlinkedAmong vs) n p.deferreds d h.unsettled here)
 
 -- THE MAPS
 pub none-promised : (vs : List Value) → ArePromisesOf vs no_promises

@@ -17,7 +17,7 @@ use Rattle.napi_types.proofs.plain.Maps.{filter_all, has-left, has-right}
 use Rattle.machine_laws.specs.Consistency.{IsConsistent, IsLiveAmong, reactions_in}
 use Rattle.machine_laws.specs.PromiseLaws.{PendingPromisesAreRoots, CollectionsKeepDeferreds, SettledPromisesAreNoRoots}
 use Rattle.machine_laws.specs.PromiseLaws.{ReactedPromisesAreRoots, CollectionsKeepReactions, ReactionsAreOfOnePromise}
-use Rattle.machine_laws.proofs.Collected.{of-each, other_roots}
+use Rattle.machine_laws.proofs.Collected.{of-each, other_roots, passes-twice}
 use Rattle.machine_laws.proofs.Counting.{count-cons, distinct-times, one_when, times}
 use Rattle.machine_laws.proofs.LiveNumbers.{all-there}
 use Rattle.machine_laws.proofs.PromiseMaps.{promised_value, deferred_number, deferred_value, settled_promise, of_other_numbers, others-apart}
@@ -49,16 +49,12 @@ pending-roots e n v is = root-deferred e v (by (found deferred_number n e.promis
         let it : d.promise ≡ v = cc in
         subst IsThere it (found-All deferred_number (λ x. IsThere x.promise) n e.promises.deferreds d (each-there e.promises.deferreds) here)
 
-stays : (b : Bool) → b ≡ true → not (not b) ≡ true
-stays true is = refl
-stays false is = cc
-
 pub deferreds-kept : CollectionsKeepDeferreds
 deferreds-kept e c =
     filter_all (λ (d : Deferred). not (not (has_number d.promise (reach e)))) e.promises.deferreds
     (λ k d below.
     let root = root-deferred e _ (each-there e.promises.deferreds k d below) in
-    stays _ (reach-roots e.heap.values (roots e) _ (c.promises.deferred k d below) root))
+    passes-twice _ (reach-roots e.heap.values (roots e) _ (c.promises.deferred k d below) root))
 
 -- ONE WITH REACTIONS
 abbrev reactions_among : List Promise → ℕ → List ℕ

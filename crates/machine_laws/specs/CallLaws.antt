@@ -5,7 +5,7 @@ use Rattle.napi_types.specs.declared.body.Body.TheVariants as body
 use Rattle.napi_types.specs.declared.call.Call.{Call}
 use Rattle.napi_types.specs.declared.call.Call.TheVariants as call
 use Rattle.napi_types.specs.declared.call.CallGroup.{CallGroup}
-use Rattle.napi_types.specs.declared.call.CallGroup.TheVariants.{OnValues, OnProperties, OnFunctions, OnScopes, OnReferences, OnWraps, OnExternals, OnEntering, OnExceptions, OnInstances, OnHooks, OnPromises, OnWorks, OnTsfns, OnVersion, OnCollection, OnExit}
+use Rattle.napi_types.specs.declared.call.CallGroup.TheVariants.{OnValues, OnProperties, OnFunctions, OnScopes, OnReferences, OnWraps, OnExternals, OnEntering, OnExceptions, OnInstances, OnHooks, OnPromises, OnBuffers, OnWorks, OnTsfns, OnVersion, OnCollection, OnExit}
 use Rattle.napi_types.specs.declared.call.JobSpec.{JobSpec}
 use Rattle.napi_types.specs.declared.call.Mode.{Mode}
 use Rattle.napi_types.specs.declared.entry.Out.TheVariants as out
@@ -29,6 +29,7 @@ use Rattle.napi_types.specs.parts.Hooks.{hook_ticket}
 use Rattle.napi_types.specs.parts.NamedNumbers.{handles_of, texts_of, unknown_refusal}
 use Rattle.napi_types.specs.parts.ReferenceRefusals.{references_of, reference_refusal}
 use Rattle.napi_types.specs.parts.Scopes.{gives}
+use Rattle.napi_types.specs.environment.BufferCalls.{buffer_refusal}
 use Rattle.napi_types.specs.environment.Calls.{answer, with_depth_error}
 use Rattle.napi_types.specs.environment.Changes.{call_change}
 use Rattle.napi_types.specs.environment.Environment.{Environment}
@@ -143,7 +144,7 @@ pub record NeedsAndGrowth : Type 0 where
 abbrev pub every_group : List CallGroup
 every_group =
     OnValues ∷ OnProperties ∷ OnFunctions ∷ OnScopes ∷ OnReferences ∷ OnWraps ∷ OnExternals ∷ OnEntering ∷ OnExceptions ∷ OnInstances
-    ∷ OnHooks ∷ OnPromises ∷ OnWorks ∷ OnTsfns ∷ OnVersion ∷ OnCollection ∷ OnExit ∷ []
+    ∷ OnHooks ∷ OnPromises ∷ OnBuffers ∷ OnWorks ∷ OnTsfns ∷ OnVersion ∷ OnCollection ∷ OnExit ∷ []
 
 -- what each of them says of a call
 abbrev pub groups : Environment → Call → ℕ → List (Option (Answer Environment))
@@ -177,12 +178,12 @@ pub record NamesReferencesAlone (e : Environment) (c : Call) : Type 0 where
 abbrev pub ReferencesAreNamedAlone : Type 0
 ReferencesAreNamedAlone = (e : Environment) (c : Call) → NamesReferencesAlone e c
 
--- the first refusal that the heap tells, or else that of a deferred or a reaction, that of a value to which no reference is made, or that of what is attached
--- to a value
+-- the first refusal that the heap tells, or else that of a deferred or a reaction, that of a buffer or a view, that of a value to which no reference is made,
+-- or that of what is attached to a value
 abbrev pub attached_refusal : Environment → Call → Option Status
 attached_refusal e c =
     option_or (refusal_in e.texts e.heap c)
-    (option_or (promise_refusal e c) (option_or (referring_refusal e c) (attachment_refusal e.attachments e.heap c)))
+    (option_or (promise_refusal e c) (option_or (buffer_refusal e c) (option_or (referring_refusal e c) (attachment_refusal e.attachments e.heap c))))
 
 -- a call on hooks names no reference, no handle and no text, so it shows nowhere either whether the hooks are asked before all that or after it
 pub record NamesHooksAlone (e : Environment) (c : Call) : Type 0 where

@@ -1,8 +1,10 @@
 -- What holds of the environment at every moment of a run.
-use Rattle.std.specs.Prelude.{◌≡◌, ◌≢◌, ◌<◌, ◌≤◌, ℕ, nat_eq, true, List, [], ◌∷◌, length, map, flat_map, Some, None, IsSome}
-use Rattle.std.specs.List.{All, IsDistinct}
+use Rattle.std.specs.Prelude.{◌≡◌, ◌≢◌, ◌<◌, ◌≤◌, ◌==◌, ◌&&◌, ℕ, nat_eq, Bool, true, List, [], ◌∷◌, length, map, flat_map, Some, None, IsSome}
+use Rattle.std.specs.List.{All, IsDistinct, list_any}
 use Rattle.std.specs.Option.{IfSome}
 use Rattle.napi_types.specs.plain.Lists.{has_number}
+use Rattle.napi_types.specs.parts.Attachments.{Attachments}
+use Rattle.napi_types.specs.parts.Buffers.{Buffers, AreWithinLimits, buffer_at}
 use Rattle.napi_types.specs.parts.Frames.{most_frames}
 use Rattle.napi_types.specs.parts.Promises.{Promise, Promises, promise_state}
 use Rattle.napi_types.specs.parts.Reach.{numbers}
@@ -63,7 +65,26 @@ pub record ArePromisesOf (vs : List Value) (p : Promises) : Type 0 where
   pub unsettled : All (λ d. link_of vs d.promise ≡ None) p.deferreds
   pub settled : All (λ r. r.state ≢ 0 → IsSome (link_of vs r.value)) p.promises
 
--- handles, values, references, promises and frames fit together
+-- buffers and views as finite maps: both lie by rising number of their values. Each is one of these values, and the link of a view is its buffer
+pub record AreBuffersOf (vs : List Value) (b : Buffers) : Type 0 where
+  pub buffers : RisesBy (λ r. r.value) b.buffers
+  pub views : RisesBy (λ w. w.value) b.views
+  pub live : All (λ r. IsLiveAmong vs r.value) b.buffers
+  pub viewed : All (λ w. IsLiveAmong vs w.value) b.views
+  pub linked : All (λ w. link_of vs w.value ≡ Some w.about.buffer.0) b.views
+
+-- a finalizer of this ticket is attached to this value
+abbrev pub has_attached : Attachments → ℕ → ℕ → Bool
+has_attached a ticket v = list_any (λ t. (t.ticket == ticket) && (t.value == v)) a.tickets
+
+-- each view is one of a buffer, and lies in its bytes while these are there. No buffer has more bytes than one may have, nor all together. The finalizer of an
+-- external buffer is attached to it
+pub record AreSoundBuffers (a : Attachments) (b : Buffers) : Type 0 where
+  pub whose : All (λ w. IsSome (buffer_at b w.about.buffer.0)) b.views
+  pub limits : AreWithinLimits b
+  pub attached : All (λ r. IfSome r.ticket (λ ticket. has_attached a ticket r.value ≡ true)) b.buffers
+
+-- handles, values, references, promises, buffers and frames fit together
 pub record IsConsistent (e : Environment) : Type 0 where
   -- the handles in open scopes were issued, each once, and so were the creation numbers of the values
   pub handles : AreIssued e.heap.handles (held_handles e.heap.scopes)
@@ -78,6 +99,9 @@ pub record IsConsistent (e : Environment) : Type 0 where
   pub references : IsMap e.references
   -- the promises and their deferreds are finite maps, of live values
   pub promises : ArePromisesOf e.heap.values e.promises
+  -- the buffers and their views are finite maps, of live values, and sound
+  pub buffers : AreBuffersOf e.heap.values e.buffers
+  pub sound : AreSoundBuffers e.attachments e.buffers
   -- the children of a value are live, and so are the starting values
   pub children : All (λ v. All (IsLiveAmong e.heap.values) (children v)) e.heap.values
   pub starting : All (IsLiveAmong e.heap.values) (numbers starting_values)

@@ -1,8 +1,10 @@
 -- Environments that are consistent, and near misses, each of which misses one fact.
-use Rattle.std.specs.Prelude.{ℕ, ◌+◌, List, [], ◌∷◌, ◌++◌, Some, None, replicate}
+use Rattle.std.specs.Prelude.{ℕ, ◌+◌, ◌<◌, List, [], ◌∷◌, ◌++◌, Option, Some, None, replicate}
 use Rattle.napi_types.specs.declared.body.Body.TheVariants as body
 use Rattle.napi_types.specs.declared.entry.Cause.TheVariants as cause
-use Rattle.napi_types.specs.parts.Bodies.{promise_tag}
+use Rattle.napi_types.specs.parts.Attachments.{Attached, no_attachments}
+use Rattle.napi_types.specs.parts.Bodies.{buffer_tag, promise_tag, view_tag}
+use Rattle.napi_types.specs.parts.Buffers.{ArrayBuffer, BufferView, most_buffer_bytes, most_bytes_together}
 use Rattle.napi_types.specs.parts.Frames.{Frame, frame_of, most_frames}
 use Rattle.napi_types.specs.parts.Heap.{Heap, new_heap}
 use Rattle.napi_types.specs.parts.NewValues.{array_of}
@@ -81,6 +83,43 @@ with_linked_values = record (holding two_held) {
 abbrev pub promising : List Promise → List Deferred → List ℕ → Environment
 promising rs ds ns = record (in_init_frame with_linked_values) { promises = record { promises = rs; deferreds = ds; issued = ns } }
 
+-- two other values: one that is a buffer, and one whose link is that
+abbrev pub buffer_number : ℕ
+buffer_number = 6
+
+abbrev pub view_number : ℕ
+view_number = 7
+
+-- the number after theirs
+abbrev pub no_buffer : ℕ
+no_buffer = 8
+
+-- a heap with them
+abbrev pub with_viewed_values : Heap
+with_viewed_values = record (holding two_held) {
+  values = starting_values ++ linked_value buffer_number buffer_tag None ∷ linked_value view_number view_tag (Some buffer_number) ∷ [];
+  made = view_number;
+}
+
+-- a buffer that is this value, of so many zeros, with the ticket of its finalizer where it has one
+abbrev pub zeros_of : ℕ → ℕ → Option ℕ → ArrayBuffer
+zeros_of value size ticket = record { value = value; bytes = Some (replicate size 0); ticket = ticket }
+
+-- a view that is this value, of one element of this size from this byte of a buffer on
+abbrev pub element_of : ℕ → ℕ → ℕ → ℕ → BufferView
+element_of value buffer size offset = record { value = value; about = record { buffer = record { 0 = buffer }; size = size; offset = offset; length = 1 } }
+
+-- a finalizer of this ticket that is attached to this value
+abbrev pub finalizing_value : ℕ → ℕ → Attached
+finalizing_value value ticket = record { ticket = ticket; value = value }
+
+-- an environment with such buffers and views, where these finalizers are attached
+abbrev pub buffering : List ArrayBuffer → List BufferView → List Attached → Environment
+buffering rs ws ts = record (in_init_frame with_viewed_values) {
+  attachments = record no_attachments { tickets = ts };
+  buffers = record { buffers = rs; views = ws };
+}
+
 -- one with a thread-safe function that keeps this value alive
 abbrev pub rooting : ℕ → Environment
 rooting value = record (in_init_frame (holding two_held)) { tsfn_roots = record { function = 1; value = value } ∷ [] }
@@ -91,8 +130,8 @@ deep n = record small_environment { heap = record new_heap { scopes = replicate 
 
 -- near misses are not consistent
 pub record IsStrict : Type 0 where
-  -- two handles of two values are consistent, as many frames as may stand, a thread-safe function that keeps a value alive, and two promises with reactions, of
-  -- which one is settled and the other has a deferred
+  -- two handles of two values are consistent, as many frames as may stand, a thread-safe function that keeps a value alive, two promises with reactions, of
+  -- which one is settled and the other has a deferred, and a buffer with a finalizer and a view of its last bytes
   pub fits : IsConsistent (in_init_frame (holding two_held))
   pub fits_deep : IsConsistent (deep most_frames)
   pub fits_rooted : IsConsistent (rooting undefined_value)
@@ -100,6 +139,10 @@ pub record IsStrict : Type 0 where
       (reacting settled_value 1 (1 ∷ 3 ∷ []) ∷ reacting pending_value 0 (2 ∷ []) ∷ [])
       (deferred 2 pending_value ∷ [])
       (1 ∷ 2 ∷ []))
+  pub fits_buffers : IsConsistent (buffering
+      (zeros_of buffer_number 8 (Some 1) ∷ [])
+      (element_of view_number buffer_number 4 4 ∷ [])
+      (finalizing_value buffer_number 1 ∷ []))
   -- no handle stands twice, not of one value either, and none was not issued
   pub twice : (v w : ℕ) → IsConsistent (in_init_frame (holding (handle_to v 1 ∷ handle_to w 1 ∷ []))) → ⊥
   pub unissued : IsConsistent (in_init_frame (holding (handle_to undefined_value 1 ∷ handle_to null_value 3 ∷ []))) → ⊥
@@ -142,6 +185,28 @@ pub record IsStrict : Type 0 where
       (1 ∷ 2 ∷ [])) → ⊥
   pub falling_issued : IsConsistent (promising [] [] (2 ∷ 1 ∷ [])) → ⊥
   pub unissued_deferred : IsConsistent (promising (promise pending_value 0 ∷ []) (deferred 1 pending_value ∷ []) (2 ∷ [])) → ⊥
+  -- no buffer and no view is a number that no value has, and none lie by falling number of their values
+  pub dead_buffer : (size : ℕ) → IsConsistent (buffering (zeros_of no_buffer size None ∷ []) [] []) → ⊥
+  pub dead_view : IsConsistent (buffering (zeros_of buffer_number 8 None ∷ []) (element_of no_buffer buffer_number 4 4 ∷ []) []) → ⊥
+  pub falling_buffers : IsConsistent (buffering (zeros_of view_number 8 None ∷ zeros_of buffer_number 8 None ∷ []) [] []) → ⊥
+  pub falling_views : IsConsistent (buffering
+      (zeros_of buffer_number 8 None ∷ [])
+      (element_of view_number buffer_number 4 4 ∷ element_of buffer_number buffer_number 4 4 ∷ [])
+      []) → ⊥
+  -- no view is one of a buffer that is not its link, nor of one that was freed
+  pub unlinked_view : IsConsistent (buffering (zeros_of undefined_value 8 None ∷ []) (element_of view_number undefined_value 4 4 ∷ []) []) → ⊥
+  pub freed : IsConsistent (buffering [] (element_of view_number buffer_number 4 4 ∷ []) []) → ⊥
+  -- none ends past its buffer, and no element has three bytes
+  pub past_end : (offset : ℕ) → 4 < offset
+      → IsConsistent (buffering (zeros_of buffer_number 8 None ∷ []) (element_of view_number buffer_number 4 offset ∷ []) []) → ⊥
+  pub odd_size : IsConsistent (buffering (zeros_of buffer_number 8 None ∷ []) (element_of view_number buffer_number 3 0 ∷ []) []) → ⊥
+  -- no buffer has more bytes than one may have, nor two of them more than all may have together
+  pub past_limit : (n : ℕ) → most_buffer_bytes < n → IsConsistent (buffering (zeros_of buffer_number n None ∷ []) [] []) → ⊥
+  pub past_sum : (m n : ℕ) → most_bytes_together < m + n
+      → IsConsistent (buffering (zeros_of buffer_number m None ∷ zeros_of view_number n None ∷ []) [] []) → ⊥
+  -- no finalizer of a buffer is attached to nothing, or to another value
+  pub unattached : (ticket : ℕ) → IsConsistent (buffering (zeros_of buffer_number 8 (Some ticket) ∷ []) [] []) → ⊥
+  pub attached_elsewhere : IsConsistent (buffering (zeros_of buffer_number 8 (Some 1) ∷ []) [] (finalizing_value view_number 1 ∷ [])) → ⊥
   -- a starting value is there
   pub starting : IsConsistent (in_init_frame (record (holding []) { values = [] })) → ⊥
   -- no frame is without scopes, and one more than may stand does not

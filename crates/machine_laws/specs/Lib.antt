@@ -1,4 +1,6 @@
 pub mod Abort
+pub mod BufferCollected
+pub mod BufferRun
 pub mod CallAndError
 pub mod CallLaws
 pub mod CancelAfterStart

@@ -2,9 +2,9 @@
 ghost use Rattle.machine_laws.specs.ConsistencyMisses.{IsStrict};
 ghost use Rattle.machine_laws.specs.HandleLaws.{EnvironmentsAreConsistent, AcceptedHandlesAreOpen, HandlesAreStable};
 
-/// Handles, values, references, promises and frames fit together.
+/// Handles, values, references, promises, buffers and frames fit together.
 pub fn environments_are_consistent()
-    // At every moment of a run handles, values, references, promises and frames fit together.
+    // At every moment of a run handles, values, references, promises, buffers and frames fit together.
     ensures runs { EnvironmentsAreConsistent }
 
     // Environments that miss one fact of a consistent one are not consistent, and those that they are made of are.

@@ -3,6 +3,7 @@
 //! so that a definition's change proves no more than the laws of it. The laws that proofs above cite stand in `napi_types`.
 #![tactic(auto)]
 
+pub mod buffer_runs;
 pub mod calls;
 pub mod choices;
 pub mod cuts;

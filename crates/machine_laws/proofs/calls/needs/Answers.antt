@@ -24,6 +24,7 @@ grows (call.SetInstanceData payload finalizer hint) registers = registers
 grows (call.AddEnvCleanupHook entry arg) registers = refl
 grows (call.AddAsyncCleanupHook entry argument) registers = refl
 grows (call.AddReaction h entry payload) registers = refl
+grows (call.CreateExternalArraybuffer size payload entry hint) registers = refl
 grows (call.CreateAsyncWork job entry payload) registers = refl
 grows (call.QueueAsyncWork w) registers = refl
 grows (call.CreateThreadsafeFunction f entry most initial finalizer context) registers = refl

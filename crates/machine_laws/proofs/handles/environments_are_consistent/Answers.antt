@@ -1,10 +1,14 @@
-use Rattle.std.proofs.Common.{◌≡◌, ◌<◌, ◌≤◌, ◌∙◌, ℕ, ◌+◌, ◌==◌, nat_eq, nat_lt, arith, true, List, [], ◌∷◌, refl, ap, sym, Some, None}
+use Rattle.std.proofs.Common.{◌≡◌, ◌<◌, ◌≤◌, ◌∙◌, ℕ, ◌+◌, ◌==◌, nat_eq, nat_lt, arith, true, List, [], ◌∷◌, length, replicate, refl, ap, sym, inl, inr, Some, None}
 use Rattle.std.specs.Option.{unwrap_or}
 use Rattle.std.specs.List.{All, list_all, IsDistinct}
 use Rattle.std.proofs.lemmas.Bool.{false≢true, and_parts, ltb-true}
+use Rattle.std.proofs.lemmas.List.{length-replicate}
 use Rattle.std.proofs.lemmas.List.Elements.{All-nil, All-cons}
 use Rattle.napi_types.specs.declared.body.Body.TheVariants as body
-use Rattle.napi_types.specs.parts.Bodies.{promise_tag}
+use Rattle.napi_types.specs.declared.view.ViewInfo.{ViewInfo}
+use Rattle.napi_types.specs.parts.Attachments.{Attachments, no_attachments, with_attached}
+use Rattle.napi_types.specs.parts.Bodies.{buffer_tag, promise_tag, view_tag}
+use Rattle.napi_types.specs.parts.Buffers.{Buffers, IsElementSize, LiesInBuffer, no_buffers, with_buffer}
 use Rattle.napi_types.specs.parts.Frames.{most_frames}
 use Rattle.napi_types.specs.parts.Heap.{Heap, new_heap}
 use Rattle.napi_types.specs.parts.HeapChanges.{with_handle, with_frame, with_linked}
@@ -12,8 +16,9 @@ use Rattle.napi_types.specs.parts.Promises.{Promise, Promises, no_promises, prom
 use Rattle.napi_types.specs.parts.Values.{Value, undefined_value, null_value, starting_values, fresh_value, with_link}
 use Rattle.napi_types.specs.environment.Environment.{Environment, TsfnRoot}
 use Rattle.napi_types.proofs.plain.Found.{same-self}
-use Rattle.machine_laws.specs.Consistency.{IsConsistent, IsLiveAmong, ArePromisesOf}
-use Rattle.machine_laws.specs.ConsistencyMisses.{IsStrict, in_init_frame, holding, two_held, deep, rooting, reference, promise, reacting, deferred, settled_value, pending_value, with_linked_values, promising}
+use Rattle.machine_laws.specs.Consistency.{IsConsistent, IsLiveAmong, ArePromisesOf, AreSoundBuffers}
+use Rattle.machine_laws.specs.ConsistencyMisses.{IsStrict, in_init_frame, holding, two_held, deep, rooting, reference, promise, reacting, deferred, settled_value, pending_value, with_linked_values, promising, buffer_number, view_number, with_viewed_values, zeros_of, element_of, finalizing_value, buffering}
+use Rattle.machine_laws.proofs.BuffersFit.{buffer-fits, no-buffers-fit, view-fits}
 use Rattle.machine_laws.proofs.ConsistentRuns.{environments-are-consistent, new-heap-good}
 use Rattle.machine_laws.proofs.Counting.{count-cons, distinct-times, none-issued, one_when, times}
 use Rattle.machine_laws.proofs.ConsistentAnswers.{whole-of}
@@ -23,6 +28,7 @@ use Rattle.machine_laws.proofs.ConsistentValues.{with-linked-value, with-one-cha
 use Rattle.machine_laws.proofs.PromiseMaps.{none-promised, more-promised, reacted-promised, settled-promised}
 use Rattle.machine_laws.proofs.Reactions.{AreBelow}
 use Rattle.machine_laws.proofs.Rising.{none-map}
+use Rattle.machine_laws.proofs.SoundBuffers.{attached-new, none-sound, sound-buffer, sound-view}
 use Rattle.machine_laws.proofs.handles.environments_are_consistent.Goals as goal
 
 pub returns-clause-runs : goal.returns-clause-runs
@@ -45,7 +51,8 @@ two-fit =
       pending = tt;
       rooted = λ k d below. absurd (omega (arith, below));
       promises = none-promised starting_values;
-    }) refl (omega arith)
+      buffers = no-buffers-fit starting_values;
+    }) (none-sound no_attachments) refl (omega arith)
 
 rooted-fit : IsConsistent (rooting undefined_value)
 rooted-fit =
@@ -58,7 +65,8 @@ rooted-fit =
       pending = tt;
       rooted = All-cons P (record { function = 1; value = undefined_value }) [] refl (All-nil P);
       promises = none-promised starting_values;
-    }) refl (omega arith)
+      buffers = no-buffers-fit starting_values;
+    }) (none-sound no_attachments) refl (omega arith)
 
 -- a test of numbers tells that reactions are below a ticket
 all-lower : (ticket : ℕ) (ns : List ℕ) → list_all (λ n. nat_lt n ticket) ns ≡ true → All (λ n. n < ticket) ns
@@ -75,12 +83,13 @@ are-below ticket (r ∷ rs) is =
 
 -- two values are made that may have links
 abbrev both_unlinked : Heap
-both_unlinked = with_linked promise_tag (with_linked promise_tag (holding two_held))
+both_unlinked = with_linked promise_tag None (with_linked promise_tag None (holding two_held))
 
 unlinked-good : IsConsistentHeap both_unlinked
 unlinked-good =
-    let one : ComesTo (holding two_held) (with_linked promise_tag (holding two_held)) = with-linked-value (holding two_held) promise_tag two-good in
-    (with-linked-value (with_linked promise_tag (holding two_held)) promise_tag one.good).good
+    let one : ComesTo (holding two_held) (with_linked promise_tag None (holding two_held)) =
+    with-linked-value (holding two_held) promise_tag None tt two-good in
+    (with-linked-value (with_linked promise_tag None (holding two_held)) promise_tag None tt one.good).good
 
 links-first : ComesTo both_unlinked with_linked_values
 links-first =
@@ -108,7 +117,42 @@ promised-fit =
       pending = tt;
       rooted = λ k d below. absurd (omega (arith, below));
       promises = settled-promised 1 settled_value 1 undefined_value vs (with_reaction settled_value 3 more) refl links-first.live five;
-    }) refl (omega arith)
+      buffers = no-buffers-fit with_linked_values.values;
+    }) (none-sound no_attachments) refl (omega arith)
+
+-- a buffer is made with a finalizer, and a view of it
+buffers-fit : IsConsistent
+    (buffering (zeros_of buffer_number 8 (Some 1) ∷ []) (element_of view_number buffer_number 4 4 ∷ []) (finalizing_value buffer_number 1 ∷ []))
+buffers-fit =
+    let vs : List Value = with_viewed_values.values in
+    let a : Attachments = with_attached buffer_number 1 no_attachments in
+    let about : ViewInfo = (element_of view_number buffer_number 4 4).about in
+    let b : Buffers = with_buffer buffer_number 8 (Some 1) no_buffers in
+    let one : ComesTo (holding two_held) (with_linked buffer_tag None (holding two_held)) = with-linked-value (holding two_held) buffer_tag None tt two-good in
+    let first : AreSoundBuffers a b =
+    sound-buffer buffer_number 8 (Some 1) a no_buffers refl (omega arith) (omega arith) (attached-new buffer_number 1 no_attachments) (none-sound a) in
+    let lies : LiesInBuffer about b = record {
+      size = inr (inr (inl refl));
+      within = λ ys is. let it : replicate 8 0 ≡ ys = cc in omega (arith, ap length it);
+    } in
+    whole-of
+    (buffering (zeros_of buffer_number 8 (Some 1) ∷ []) (element_of view_number buffer_number 4 4 ∷ []) (finalizing_value buffer_number 1 ∷ []))
+    (record {
+      heap = (with-linked-value (with_linked buffer_tag None (holding two_held)) view_tag (Some buffer_number) refl one.good).good;
+      referred = λ k d below. absurd (omega (arith, below));
+      references = none-map;
+      pending = tt;
+      rooted = λ k d below. absurd (omega (arith, below));
+      promises = none-promised vs;
+      buffers = view-fits view_number about vs b refl refl (buffer-fits buffer_number 8 (Some 1) vs no_buffers refl (no-buffers-fit vs));
+    }) (sound-view view_number about a b refl lies first) refl (omega arith)
+
+-- no element has three bytes
+three-bytes : IsElementSize 3 → ⊥
+three-bytes (inl is) = absurd (omega (arith, is))
+three-bytes (inr (inl is)) = absurd (omega (arith, is))
+three-bytes (inr (inr (inl is))) = absurd (omega (arith, is))
+three-bytes (inr (inr (inr is))) = absurd (omega (arith, is))
 
 -- no promise is pending whose state is above 0
 state-above : (state : ℕ) → Some (state + 1) ≡ Some 0 → ⊥
@@ -144,7 +188,15 @@ deep-fit =
       pending = tt;
       rooted = λ k d below. absurd (omega (arith, below));
       promises = none-promised starting_values;
-    }) refl (omega arith)
+      buffers = no-buffers-fit starting_values;
+    }) (none-sound no_attachments) refl (omega arith)
+
+-- so many zeros
+abbrev zeros : ℕ → List ℕ
+zeros n = replicate n 0
+
+abbrev eight-zeros : List ℕ
+eight-zeros = zeros 8
 
 law : IsStrict
 law = record {
@@ -152,6 +204,7 @@ law = record {
   fits_deep = deep-fit;
   fits_rooted = rooted-fit;
   fits_promised = promised-fit;
+  fits_buffers = buffers-fit;
   twice = λ v w c. absurd (omega (arith, distinct-times 1 (1 ∷ 1 ∷ []) c.handles.apart));
   unissued = λ c. absurd (omega (arith, (c.handles.within 1 0 (omega arith)).1));
   nought = λ c. absurd (omega (arith, (c.handles.within 0 1 (omega arith)).0));
@@ -178,6 +231,18 @@ law = record {
   falling_deferreds = λ c. absurd (omega (arith, c.promises.rows.deferreds.0 0 (deferred 1 2) (omega arith)));
   falling_issued = λ c. absurd (omega (arith, c.promises.rows.numbers.0 0 0 (omega arith)));
   unissued_deferred = λ c. false≢true (c.promises.rows.issued 0 (deferred 1 7) (omega arith));
+  dead_buffer = λ size c. false≢true (c.buffers.live 0 (zeros_of 8 8 None) (omega arith));
+  dead_view = λ c. false≢true (c.buffers.viewed 0 (element_of 8 6 4 4) (omega arith));
+  falling_buffers = λ c. absurd (omega (arith, c.buffers.buffers.0 0 (zeros_of 6 8 None) (omega arith)));
+  falling_views = λ c. absurd (omega (arith, c.buffers.views.0 0 (element_of 6 6 4 4) (omega arith)));
+  unlinked_view = λ c. let no : Some 6 ≡ Some 1 = c.buffers.linked 0 (element_of 7 1 4 4) (omega arith) in cc;
+  freed = λ c. false≢true (c.sound.whose 0 (element_of 7 6 4 4) (omega arith));
+  past_end = λ offset far c. absurd (omega (arith, far, (c.sound.limits.views 7 (element_of 7 6 4 offset).about refl).within eight-zeros refl));
+  odd_size = λ c. three-bytes (c.sound.limits.views 7 (element_of 7 6 3 0).about refl).size;
+  past_limit = λ n far c. absurd (omega (arith, far, c.sound.limits.each 6 (length (zeros n)) refl, length-replicate {A = ℕ} n 0));
+  past_sum = λ m n far c. absurd (omega (arith, far, c.sound.limits.together, length-replicate {A = ℕ} m 0, length-replicate {A = ℕ} n 0));
+  unattached = λ ticket c. false≢true (c.sound.attached 0 (zeros_of 6 8 None) (omega arith));
+  attached_elsewhere = λ c. false≢true (c.sound.attached 0 (zeros_of 6 8 None) (omega arith));
   starting = λ c. false≢true (c.starting 0 0 (omega arith));
   scopes = λ c. absurd (omega (arith, c.frames));
   depth = λ c. absurd (omega (arith, c.depth));
