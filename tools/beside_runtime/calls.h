@@ -919,6 +919,103 @@ static void get_instance_data(frame *f, int w) {
   keep_number(f, "get_instance_data", s, w, p ? ((finalizer *)p)->payload : 0);
 }
 
+/* Buffers and views. An external buffer has bytes of zeros that are taken for it, and the finalizer is its hint. Past these numbers the
+ * engine would end the process, for want of memory or since a sum of its own wraps round. */
+#define BYTES_MOST INT32_MAX
+TESTER(is_arraybuffer)
+TESTER(is_detached_arraybuffer)
+static bool is_too_long(frame *f, const char *name, u64 length) {
+  return length > BYTES_MOST && not_made(f, name, "so great a number may end the process");
+}
+static void create_arraybuffer(frame *f, u64 length, int w) {
+  const char *name = "create_arraybuffer";
+  if (is_too_long(f, name, length)) return;
+  void *bytes;
+  napi_value v = NULL;
+  napi_status s = napi_create_arraybuffer(f->env, length, &bytes, &v);
+  keep_handle(f, name, s, w, v);
+}
+static void finalize_buffer(napi_env env, void *bytes, void *it) { finalize(env, it, NULL); }
+static void create_external_arraybuffer(frame *f, u64 length, u64 payload, int e, u64 hint, int w) {
+  const char *name = "create_external_arraybuffer";
+  if (registers_late(f, name) || is_too_long(f, name, length)) return;
+  finalizer *it = finalizer_of(f, payload, e, hint);
+  napi_value v = NULL;
+  napi_status s = napi_create_external_arraybuffer(f->env, calloc(length + 1, 1), length, finalize_buffer, it, &v);
+  if (is_kept(f, s)) f->regs[w] = issue(v);
+  answer_with(f, name, s, "handle", ticket(f, it, s));
+}
+static void get_arraybuffer_info(frame *f, int r, int w) {
+  const char *name = "get_arraybuffer_info";
+  VALUE(v, r);
+  void *bytes;
+  size_t length = 0;
+  napi_status s = napi_get_arraybuffer_info(f->env, v, &bytes, &length);
+  keep_number(f, name, s, w, length);
+}
+static void detach_arraybuffer(frame *f, int r) {
+  const char *name = "detach_arraybuffer";
+  VALUE(v, r);
+  napi_status s = napi_detach_arraybuffer(f->env, v);
+  answer(f, name, s, "-");
+}
+/* A view that does not fit leaves an exception in some runtimes. It is told, and taken, so that both go on alike. */
+static void create_typedarray(frame *f, u64 type, int r, u64 offset, u64 length, int w) {
+  const char *name = "create_typedarray";
+  if (is_too_long(f, name, type) || is_too_long(f, name, offset) || is_too_long(f, name, length)) return;
+  VALUE(buffer, r);
+  napi_value v = NULL, x;
+  bool before_it = true, pending = false;
+  char status[16];
+  napi_is_exception_pending(f->env, &before_it);
+  napi_status s = napi_create_typedarray(f->env, (napi_typedarray_type)type, length, buffer, offset, &v);
+  if (s != napi_ok && !before_it) napi_is_exception_pending(f->env, &pending);
+  if (!pending) {
+    keep_handle(f, name, s, w, v);
+    return;
+  }
+  napi_get_and_clear_last_exception(f->env, &x);
+  snprintf(status, sizeof status, "%d", (int)s);
+  say("env", name, status, "an exception is pending", "");
+  fill(f);
+  UNTOLD = "what came before it is no call of Node-API";
+  made(f);
+}
+/* An element of a view is read and written in the bytes that the runtime tells of it. There is no call for it. */
+typedef struct {
+  napi_typedarray_type type;
+  size_t length;
+  void *bytes;
+} view;
+static bool has_no_element(frame *f, const char *name, napi_value v, u64 at, view *it) {
+  napi_status s = napi_get_typedarray_info(f->env, v, &it->type, &it->length, &it->bytes, NULL, NULL);
+  if (s == napi_ok) return at >= it->length && not_made(f, name, "the view has no such element there");
+  answer(f, name, s, "-");
+  return true;
+}
+static void get_view(frame *f, int r, u64 at, int w) {
+  const char *name = "get_view";
+  VALUE(v, r);
+  view it;
+  if (has_no_element(f, name, v, at, &it)) return;
+  u64 n = it.type == napi_uint8_array    ? ((uint8_t *)it.bytes)[at]
+          : it.type == napi_uint16_array ? ((uint16_t *)it.bytes)[at]
+          : it.type == napi_uint32_array ? ((uint32_t *)it.bytes)[at]
+                                         : ((uint64_t *)it.bytes)[at];
+  keep_number(f, name, napi_ok, w, n);
+}
+static void set_view(frame *f, int r, u64 at, u64 n) {
+  const char *name = "set_view";
+  VALUE(v, r);
+  view it;
+  if (has_no_element(f, name, v, at, &it)) return;
+  if (it.type == napi_uint8_array) ((uint8_t *)it.bytes)[at] = (uint8_t)n;
+  else if (it.type == napi_uint16_array) ((uint16_t *)it.bytes)[at] = (uint16_t)n;
+  else if (it.type == napi_uint32_array) ((uint32_t *)it.bytes)[at] = (uint32_t)n;
+  else ((uint64_t *)it.bytes)[at] = n;
+  answer(f, name, napi_ok, "-");
+}
+
 /* Calls and exceptions. */
 static bool would_enter(frame *f, napi_value fn) {
   bool pending = true;

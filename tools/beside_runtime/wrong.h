@@ -1,4 +1,4 @@
-/* Sixteen wrong runtimes: WRONG is the number of one. Each is a call that answers wrongly, and a comparison has to notice it:
+/* Seventeen wrong runtimes: WRONG is the number of one. Each is a call that answers wrongly, and a comparison has to notice it:
  * tools/beside --cc "cc -DWRONG=1" --rows */
 #if WRONG == 1
 static napi_status wrong(napi_env e, napi_value a, napi_value b, bool *r) {
@@ -100,4 +100,13 @@ static napi_status wrong(napi_env e, napi_value v, bool *r) {
   return s;
 }
 #define napi_is_promise wrong
+#elif WRONG == 17
+static napi_status wrong(napi_env e, napi_typedarray_type t, size_t n, napi_value buffer, size_t at, napi_value *r) {
+  void *bytes;
+  size_t length;
+  napi_value own = buffer;
+  if (napi_get_arraybuffer_info(e, buffer, &bytes, &length) == napi_ok) napi_create_arraybuffer(e, length, &bytes, &own);
+  return napi_create_typedarray(e, t, n, own, at, r);
+}
+#define napi_create_typedarray wrong
 #endif
